@@ -106,3 +106,50 @@ pub pass-law : (k : ℕ) (t : Timer) {n d e : ℕ} {f o : Flag} → t .counter <
 pass-law k t hn ht pd pe po pf pn =
     moved-same t (omega arith) (cc) (cc) (rw pd (level-law (hits (t .counter) (t .compare) k) (t .olvl) (t .level)))
     ∙ sym (ticks-closed k t hn ht)
+
+-- the two flags after k cycles
+module _ (k : ℕ) (t : Timer) (hn : t .counter < 65536) (ht : t .compare < 65536) where
+  pub ticks-ocf : ticks k t .ocf .set ≡ (t .ocf .set || leb (distanceOf (t .counter) (t .compare)) k)
+  ticks-ocf = rw (ticks-closed k t hn ht)
+
+  pub ticks-tof : ticks k t .tof .set ≡ (t .tof .set || leb (distanceOf (t .counter) 65535) k)
+  ticks-tof = rw (ticks-closed k t hn ht)
+
+pub ticks-counter : (k : ℕ) (t : Timer) → t .counter < 65536 → ticks k t .counter < 65536
+unfolding ticks
+ticks-counter zero t h = h
+ticks-counter (suc k) t h = omega arith
+
+-- j cycles and then k
+pub ticks-add : (j k : ℕ) (t : Timer) → ticks (j + k) t ≡ ticks k (ticks j t)
+unfolding ticks
+ticks-add j zero t = rw (add-zero j)
+ticks-add j (suc k) t = rw (add-suc j k) (ap tick (ticks-add j k t))
+
+-- what cycles do not touch
+pub record Untouched (t u : Timer) : Type 0 where
+  pub olvl : u .olvl ≡ t .olvl
+  pub iedg : u .iedg ≡ t .iedg
+  pub etoi : u .etoi ≡ t .etoi
+  pub eoci : u .eoci ≡ t .eoci
+  pub eici : u .eici ≡ t .eici
+  pub icf : u .icf ≡ t .icf
+  pub compare : u .compare ≡ t .compare
+  pub capture : u .capture ≡ t .capture
+
+pub ticks-untouched : (k : ℕ) (t : Timer) → Untouched t (ticks k t)
+unfolding ticks
+ticks-untouched zero t =
+    record { olvl = refl; iedg = refl; etoi = refl; eoci = refl; eici = refl; icf = refl; compare = refl; capture = refl }
+ticks-untouched (suc k) t =
+    let h = ticks-untouched k t in
+    record {
+      olvl = h .olvl;
+      iedg = h .iedg;
+      etoi = h .etoi;
+      eoci = h .eoci;
+      eici = h .eici;
+      icf = h .icf;
+      compare = h .compare;
+      capture = h .capture;
+    }
