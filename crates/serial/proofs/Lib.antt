@@ -1,2 +1,3 @@
 pub mod Cycles
 pub mod Receiving
+pub mod Ranges

@@ -173,7 +173,7 @@ impl Serial {
     pub fn wants_to_send(self) -> bool
         ensures { λ r. ⌜ r ≡ wantsToSend self ⌝ }
     {
-        self.te & (!self.tdre.set & (self.busy == 0))
+        self.te & !self.tdre.set & (self.busy == 0)
     }
 
     // The transmit byte goes out.
@@ -224,7 +224,9 @@ impl Serial {
         ensures { λ r. ⌜ r ≡ serialRanges self ⌝ }
     {
         (self.rate <= 15)
-            & ((self.busy <= 40960)
-                & (self.tdre.is_settled() & (self.orfe.is_settled() & self.rdrf.is_settled())))
+            & (self.busy <= 40960)
+            & self.tdre.is_settled()
+            & self.orfe.is_settled()
+            & self.rdrf.is_settled()
     }
 }
