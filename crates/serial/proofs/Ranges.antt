@@ -1,11 +1,10 @@
--- Everything that happens to the serial interface keeps its ranges, and a read gives a byte. Assumes nothing.
-use Prim.Native.Nat.{ℕ, _*_, _-_, _%_, _<_, _≤_}
+-- Everything that happens to the serial interface keeps its ranges. Assumes nothing.
+use Prim.Native.Nat.{ℕ, _*_, _-_, _%_, _≤_}
 use native.Mathlib.Omega.{arith}
 use mathlib.Core.Path.{_≡_, refl}
 use mathlib.Core.Bool.{Bool, true, false, not, cond, _&&_, _||_}
 use lib.Dec.{leb}
 use borrow.Author.Tests.{le-leb, leb-true}
-use Rattle.bits.specs.Bits.{weight}
 use Rattle.bits.specs.declared.Flag.{Flag}
 use Rattle.bits.specs.Flags.{raised, armedOf, accessed, settled}
 use Rattle.tables.specs.Tables.{bitTime}
@@ -13,7 +12,7 @@ use Rattle.serial.specs.declared.Serial.{Serial}
 use Rattle.serial.specs.declared.SerialRead.{SerialRead}
 use Rattle.serial.specs.declared.SerialRegister.{SerialRegister}
 use Rattle.serial.specs.declared.SerialRegister.the-variants.{Rate, Trcs, Received, Transmit}
-use Rattle.serial.specs.Serial.{withBusy, trcsOf, armedSerial, takenSerial, readSerial, ratedSerial, loadedSerial, writeSerial, storedSerial, overrunSerial, receivedByte, idleLine, sentOf, ticksSerial, resetSerial, serialRanges}
+use Rattle.serial.specs.Serial.{withBusy, armedSerial, takenSerial, readSerial, ratedSerial, loadedSerial, writeSerial, storedSerial, overrunSerial, receivedByte, idleLine, sentOf, ticksSerial, resetSerial, serialRanges}
 use Rattle.serial.proofs.Cycles.{ten-bits, ticks-closed}
 use Rattle.serial.proofs.Receiving.{received-cases}
 
@@ -97,15 +96,3 @@ ticks-keep k s =
 pub reset-in-ranges : serialRanges resetSerial ≡ true
 unfolding serialRanges resetSerial
 reset-in-ranges = refl
-
-weight-most : (b : Bool) (w : ℕ) → weight b w ≤ w
-weight-most true w = omega arith
-weight-most false w = omega arith
-
-pub read-byte : (which : SerialRegister) (s : Serial) → s .received < 256 → readSerial which s .value < 256
-unfolding readSerial trcsOf
-read-byte Rate s h = omega arith
-read-byte Trcs s h =
-    omega (arith, weight-most (s .wu) 1, weight-most (s .te) 2, weight-most (s .tie) 4, weight-most (s .re) 8, weight-most (s .rie) 16, weight-most (s .tdre .set) 32, weight-most (s .orfe .set) 64, weight-most (s .rdrf .set) 128)
-read-byte Received s h = h
-read-byte Transmit s h = omega arith
