@@ -42,7 +42,7 @@ fn remaining(busy: u16, k: u32) -> u16
 }
 
 impl Serial {
-    fn trcs(self) -> u8
+    pub fn trcs(self) -> u8
         ensures { λ r. ⌜ r ≡ trcsOf self ⌝ }
     {
         bits::byte_of(

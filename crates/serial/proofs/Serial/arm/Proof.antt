@@ -9,4 +9,4 @@ arm-spec =
     (λ c κs. search needs)
     (λ c κs. search needs)
     (λ c κs. search needs)
-    (λ c. rw (c .arm3 .ensures, c .before .arm2 .ensures, c .before .before .arm .ensures)))
+    (λ c. cc))

@@ -7,4 +7,4 @@ load-spec =
     tie.close
     (tie.spec
     (λ c κs. search needs)
-    (λ c. rw (c .access .ensures)))
+    (λ c. cc))

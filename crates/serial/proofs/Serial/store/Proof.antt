@@ -7,4 +7,4 @@ store-spec =
     tie.close
     (tie.spec
     (λ c κs. search needs)
-    (λ c. rw (c .raise .ensures)))
+    (λ c. cc))

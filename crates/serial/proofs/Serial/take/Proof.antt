@@ -8,4 +8,4 @@ take-spec =
     (tie.spec
     (λ c κs. search needs)
     (λ c κs. search needs)
-    (λ c. rw (c .access2 .ensures, c .before .access .ensures)))
+    (λ c. cc))
