@@ -1,0 +1,448 @@
+// The processor on its bus: each instruction over registers, units and the lent image.
+use bits::minus;
+use bits::plus;
+use bus::Bus;
+use opcodes::Accumulator;
+use opcodes::Branch;
+use opcodes::Dyadic;
+use opcodes::Instruction;
+use opcodes::Internal;
+use opcodes::Monadic;
+use opcodes::Operation;
+use opcodes::Place;
+use opcodes::Wide;
+use opcodes::WideStore;
+use registers::Cpu;
+use tables::Vector;
+ghost use mathlib.Core.Path.{_≡_};
+ghost use Rattle.tables.specs.Tables.{vectorOf};
+ghost use Rattle.cpu.specs.Act.{run, out};
+ghost use Rattle.cpu.specs.Instructions.{read2, write2, operand, dyadic, monadic, tst, sta, wide, wideStore, push, push2, pull, pull2, psh, pul, pshx, pulx, branch, jsr, rts, stackAll, rti, vectored, swi, wai, enter, targetOf, operate, execute};
+ghost use Rattle.cpu.specs.Chip.{runOn, ran, located, popped, poppedWord, withCpu, chipOf};
+ghost use Rattle.bits.specs.Words.{up};
+ghost use Rattle.arithmetic.specs.Results.{monadicOf, testedOf};
+ghost use Rattle.registers.specs.Cpu.{withPc, withCodes, accumulator, resultIn, internalOf};
+
+pub struct Chip {
+    pub cpu: Cpu,
+    pub bus: Bus,
+}
+
+// What an operation on one byte is for.
+pub enum Target {
+    In(Accumulator),
+    Memory,
+}
+
+pub struct WordRead {
+    pub value: u16,
+    pub next: Bus,
+}
+
+pub struct Located {
+    pub at: u16,
+    pub chip: Chip,
+}
+
+pub struct Popped {
+    pub value: u8,
+    pub chip: Chip,
+}
+
+pub struct PoppedWord {
+    pub value: u16,
+    pub chip: Chip,
+}
+
+fn target_of(place: Place) -> Target
+    ensures { λ r. ⌜ r ≡ targetOf place ⌝ }
+{
+    match place {
+        Place::Inherent => Target::Memory,
+        Place::AccumulatorA => Target::In(Accumulator::A),
+        Place::AccumulatorB => Target::In(Accumulator::B),
+        Place::ImmediateByte => Target::Memory,
+        Place::ImmediateWord => Target::Memory,
+        Place::Direct => Target::Memory,
+        Place::Indexed => Target::Memory,
+        Place::Extended => Target::Memory,
+        Place::Relative => Target::Memory,
+    }
+}
+
+// Two bytes, the high one first.
+pub fn read_word(b: Bus, image: &[u8], at: u16) -> WordRead
+    ensures { λ r. ⌜ run (read2 at) b (now (image .entry)) ≡ out (r .value) (r .next) (now (image .entry)) ⌝ }
+{
+    let h = b.read(image, at);
+    let l = h.next.read(image, plus(at, 1));
+    let next = l.next;
+    WordRead {
+        value: bits::pair(h.value, l.value),
+        next: next,
+    }
+}
+
+fn write_word(b: Bus, image: &mut [u8], at: u16, w: u16) -> Bus
+    ensures { λ r. ⌜ run (write2 at w) b (now (image .entry)) ≡ out tt r (now (image .exit)) ⌝ }
+{
+    let c = b.write(image, at, bits::upper(w));
+    c.write(image, plus(at, 1), bits::lower(w))
+}
+
+// An operand's address, with PC moved past n bytes of the instruction.
+fn spot_at(at: u16, c: Cpu, b: Bus, n: u16) -> Located
+    ensures { λ r. ⌜ r ≡ record { at = at; chip = chipOf (withPc c (up (c .pc) n)) b } ⌝ }
+{
+    let cpu = c.with_pc(plus(c.pc, n));
+    let chip = Chip { cpu: cpu, bus: b };
+    Located { at: at, chip: chip }
+}
+
+impl Chip {
+    // Where the operand is.
+    fn locate(self, place: Place, image: &[u8]) -> Located
+        ensures { λ r. ⌜ runOn (operand place) self (now (image .entry)) ≡ located r (now (image .entry)) ⌝ }
+    {
+        let c = self.cpu;
+        let b = self.bus;
+        match place {
+            Place::Inherent => Located { at: 0, chip: self },
+            Place::AccumulatorA => Located { at: 0, chip: self },
+            Place::AccumulatorB => Located { at: 0, chip: self },
+            Place::ImmediateByte => spot_at(c.pc, c, b, 1),
+            Place::ImmediateWord => spot_at(c.pc, c, b, 2),
+            Place::Direct => {
+                let f = b.read(image, c.pc);
+                spot_at(f.value as u16, c, f.next, 1)
+            }
+            Place::Indexed => {
+                let f = b.read(image, c.pc);
+                spot_at(plus(c.x, f.value as u16), c, f.next, 1)
+            }
+            Place::Extended => {
+                let w = read_word(b, image, c.pc);
+                spot_at(w.value, c, w.next, 2)
+            }
+            Place::Relative => {
+                let f = b.read(image, c.pc);
+                let at = plus(plus(c.pc, 1), registers::offset_of(f.value));
+                spot_at(at, c, f.next, 1)
+            }
+        }
+    }
+
+    // SUB CMP SBC AND BIT LDA EOR ADC ORA ADD.
+    fn dyadic(self, op: Dyadic, acc: Accumulator, at: u16, image: &[u8]) -> Chip
+        ensures { λ r. ⌜ runOn (dyadic op acc at) self (now (image .entry)) ≡ ran r (now (image .entry)) ⌝ }
+    {
+        let c = self.cpu;
+        let f = self.bus.read(image, at);
+        let bus = f.next;
+        let r = arithmetic::dyadic(op, c.of(acc), f.value, c.codes);
+        let cpu = c.result(acc, r);
+        Chip { cpu: cpu, bus: bus }
+    }
+
+    fn monadic_in(self, op: Monadic, acc: Accumulator) -> Chip
+        ensures { λ r. ⌜ r ≡ withCpu self (resultIn acc (self .cpu) (monadicOf op (accumulator acc (self .cpu)) (self .cpu .codes))) ⌝ }
+    {
+        let c = self.cpu;
+        let bus = self.bus;
+        let r = arithmetic::monadic(op, c.of(acc), c.codes);
+        let cpu = c.result(acc, r);
+        Chip { cpu: cpu, bus: bus }
+    }
+
+    // Read, modify, write.
+    fn monadic_at(self, op: Monadic, at: u16, image: &mut [u8]) -> Chip
+        ensures { λ r. ⌜ runOn (monadic op Target.Memory at) self (now (image .entry)) ≡ ran r (now (image .exit)) ⌝ }
+    {
+        let c = self.cpu;
+        let f = self.bus.read(image, at);
+        let r = arithmetic::monadic(op, f.value, c.codes);
+        let bus = f.next.write(image, at, r.value);
+        let cpu = c.with_codes(r.codes);
+        Chip { cpu: cpu, bus: bus }
+    }
+
+    // NEG COM LSR ROR ASR ASL ROL DEC INC CLR.
+    fn monadic(self, op: Monadic, target: Target, at: u16, image: &mut [u8]) -> Chip
+        ensures { λ r. ⌜ runOn (monadic op target at) self (now (image .entry)) ≡ ran r (now (image .exit)) ⌝ }
+    {
+        match target {
+            Target::In(acc) => self.monadic_in(op, acc),
+            Target::Memory => self.monadic_at(op, at, image),
+        }
+    }
+
+    fn tested(self, bus: Bus, v: u8) -> Chip
+        ensures { λ r. ⌜ r ≡ chipOf (withCodes (self .cpu) (testedOf v (self .cpu .codes))) bus ⌝ }
+    {
+        let cpu = self.cpu.with_codes(arithmetic::tested(v, self.cpu.codes));
+        Chip { cpu: cpu, bus: bus }
+    }
+
+    fn tst(self, target: Target, at: u16, image: &[u8]) -> Chip
+        ensures { λ r. ⌜ runOn (tst target at) self (now (image .entry)) ≡ ran r (now (image .entry)) ⌝ }
+    {
+        match target {
+            Target::In(acc) => self.tested(self.bus, self.cpu.of(acc)),
+            Target::Memory => {
+                let f = self.bus.read(image, at);
+                self.tested(f.next, f.value)
+            }
+        }
+    }
+
+    fn sta(self, acc: Accumulator, at: u16, image: &mut [u8]) -> Chip
+        ensures { λ r. ⌜ runOn (sta acc at) self (now (image .entry)) ≡ ran r (now (image .exit)) ⌝ }
+    {
+        let c = self.cpu;
+        let v = c.of(acc);
+        let bus = self.bus.write(image, at, v);
+        let cpu = c.with_codes(arithmetic::moved(v, c.codes));
+        Chip { cpu: cpu, bus: bus }
+    }
+
+    // SUBD ADDD CPX LDD LDS LDX.
+    fn wide(self, op: Wide, at: u16, image: &[u8]) -> Chip
+        ensures { λ r. ⌜ runOn (wide op at) self (now (image .entry)) ≡ ran r (now (image .entry)) ⌝ }
+    {
+        let w = read_word(self.bus, image, at);
+        let bus = w.next;
+        let cpu = self.cpu.wide(op, w.value);
+        Chip { cpu: cpu, bus: bus }
+    }
+
+    // STD STS STX.
+    fn wide_store(self, op: WideStore, at: u16, image: &mut [u8]) -> Chip
+        ensures { λ r. ⌜ runOn (wideStore op at) self (now (image .entry)) ≡ ran r (now (image .exit)) ⌝ }
+    {
+        let c = self.cpu;
+        let w = c.stored(op);
+        let bus = write_word(self.bus, image, at, w);
+        let cpu = c.with_codes(arithmetic::moved16(w, c.codes));
+        Chip { cpu: cpu, bus: bus }
+    }
+}
+
+// The stack.
+impl Chip {
+    fn push(self, v: u8, image: &mut [u8]) -> Chip
+        ensures { λ r. ⌜ runOn (push v) self (now (image .entry)) ≡ ran r (now (image .exit)) ⌝ }
+    {
+        let c = self.cpu;
+        let bus = self.bus.write(image, c.sp, v);
+        let cpu = c.with_sp(minus(c.sp, 1));
+        Chip { cpu: cpu, bus: bus }
+    }
+
+    fn push_word(self, w: u16, image: &mut [u8]) -> Chip
+        ensures { λ r. ⌜ runOn (push2 w) self (now (image .entry)) ≡ ran r (now (image .exit)) ⌝ }
+    {
+        let p = self.push(bits::lower(w), image);
+        p.push(bits::upper(w), image)
+    }
+
+    fn pull(self, image: &[u8]) -> Popped
+        ensures { λ r. ⌜ runOn pull self (now (image .entry)) ≡ popped r (now (image .entry)) ⌝ }
+    {
+        let c = self.cpu;
+        let sp = plus(c.sp, 1);
+        let f = self.bus.read(image, sp);
+        let bus = f.next;
+        let cpu = c.with_sp(sp);
+        let chip = Chip { cpu: cpu, bus: bus };
+        Popped {
+            value: f.value,
+            chip: chip,
+        }
+    }
+
+    fn pull_word(self, image: &[u8]) -> PoppedWord
+        ensures { λ r. ⌜ runOn pull2 self (now (image .entry)) ≡ poppedWord r (now (image .entry)) ⌝ }
+    {
+        let h = self.pull(image);
+        let l = h.chip.pull(image);
+        let chip = l.chip;
+        PoppedWord {
+            value: bits::pair(h.value, l.value),
+            chip: chip,
+        }
+    }
+
+    fn pul(self, acc: Accumulator, image: &[u8]) -> Chip
+        ensures { λ r. ⌜ runOn (pul acc) self (now (image .entry)) ≡ ran r (now (image .entry)) ⌝ }
+    {
+        let p = self.pull(image);
+        let chip = p.chip;
+        let bus = chip.bus;
+        let cpu = chip.cpu.with(acc, p.value);
+        Chip { cpu: cpu, bus: bus }
+    }
+
+    fn pulx(self, image: &[u8]) -> Chip
+        ensures { λ r. ⌜ runOn pulx self (now (image .entry)) ≡ ran r (now (image .entry)) ⌝ }
+    {
+        let p = self.pull_word(image);
+        let chip = p.chip;
+        let bus = chip.bus;
+        let cpu = chip.cpu.with_x(p.value);
+        Chip { cpu: cpu, bus: bus }
+    }
+
+    // The same units, at another PC.
+    fn at(self, pc: u16) -> Chip
+        ensures { λ r. ⌜ r ≡ withCpu self (withPc (self .cpu) pc) ⌝ }
+    {
+        let bus = self.bus;
+        let cpu = self.cpu.with_pc(pc);
+        Chip { cpu: cpu, bus: bus }
+    }
+
+    // JSR, and BSR.
+    fn jsr(self, at: u16, image: &mut [u8]) -> Chip
+        ensures { λ r. ⌜ runOn (jsr at) self (now (image .entry)) ≡ ran r (now (image .exit)) ⌝ }
+    {
+        self.push_word(self.cpu.pc, image).at(at)
+    }
+
+    fn rts(self, image: &[u8]) -> Chip
+        ensures { λ r. ⌜ runOn rts self (now (image .entry)) ≡ ran r (now (image .entry)) ⌝ }
+    {
+        let p = self.pull_word(image);
+        p.chip.at(p.value)
+    }
+
+    // All registers, PC first.
+    fn stack_all(self, image: &mut [u8]) -> Chip
+        ensures { λ r. ⌜ runOn stackAll self (now (image .entry)) ≡ ran r (now (image .exit)) ⌝ }
+    {
+        let c = self.cpu;
+        let words = self.push_word(c.pc, image).push_word(c.x, image);
+        words
+            .push(c.a, image)
+            .push(c.b, image)
+            .push(c.codes.to_byte(), image)
+    }
+
+    fn rti(self, image: &[u8]) -> Chip
+        ensures { λ r. ⌜ runOn rti self (now (image .entry)) ≡ ran r (now (image .entry)) ⌝ }
+    {
+        let k = self.pull(image);
+        let b = k.chip.pull(image);
+        let a = b.chip.pull(image);
+        let x = a.chip.pull_word(image);
+        let pc = x.chip.pull_word(image);
+        let chip = pc.chip;
+        let bus = chip.bus;
+        let cpu = Cpu {
+            a: a.value,
+            b: b.value,
+            x: x.value,
+            sp: chip.cpu.sp,
+            pc: pc.value,
+            codes: arithmetic::Codes::from_byte(k.value),
+            waiting: self.cpu.waiting,
+        };
+        Chip { cpu: cpu, bus: bus }
+    }
+
+    // I set, PC from a vector, no wait.
+    fn vectored(self, vector: u16, image: &[u8]) -> Chip
+        ensures { λ r. ⌜ runOn (vectored vector) self (now (image .entry)) ≡ ran r (now (image .entry)) ⌝ }
+    {
+        let c = self.cpu;
+        let w = read_word(self.bus, image, vector);
+        let bus = w.next;
+        let cpu = c.with_pc(w.value)
+            .with_codes(registers::with_i(c.codes, true))
+            .with_waiting(false);
+        Chip { cpu: cpu, bus: bus }
+    }
+
+    fn swi(self, image: &mut [u8]) -> Chip
+        ensures { λ r. ⌜ runOn swi self (now (image .entry)) ≡ ran r (now (image .exit)) ⌝ }
+    {
+        let p = self.stack_all(image);
+        p.vectored(tables::address_of(Vector::Swi), image)
+    }
+
+    fn wai(self, image: &mut [u8]) -> Chip
+        ensures { λ r. ⌜ runOn wai self (now (image .entry)) ≡ ran r (now (image .exit)) ⌝ }
+    {
+        let p = self.stack_all(image);
+        let bus = p.bus;
+        let cpu = p.cpu.with_waiting(true);
+        Chip { cpu: cpu, bus: bus }
+    }
+
+    // Interrupt entry.
+    pub fn enter(self, vector: u16, image: &mut [u8]) -> Chip
+        ensures { λ r. ⌜ runOn (enter vector) self (now (image .entry)) ≡ ran r (now (image .exit)) ⌝ }
+    {
+        if self.cpu.waiting {
+            return self.vectored(vector, image);
+        }
+        let p = self.stack_all(image);
+        p.vectored(vector, image)
+    }
+}
+
+// The instruction.
+impl Chip {
+    fn internal(self, op: Internal) -> Chip
+        ensures { λ r. ⌜ r ≡ withCpu self (internalOf op (self .cpu)) ⌝ }
+    {
+        let bus = self.bus;
+        let cpu = self.cpu.internal(op);
+        Chip { cpu: cpu, bus: bus }
+    }
+
+    fn branch(self, test: Branch, at: u16) -> Chip
+        ensures { λ r. ⌜ r ≡ withCpu self (branch test at (self .cpu)) ⌝ }
+    {
+        if arithmetic::taken(test, self.cpu.codes) {
+            self.at(at)
+        } else {
+            self
+        }
+    }
+
+    fn operate(self, operation: Operation, place: Place, at: u16, image: &mut [u8]) -> Chip
+        ensures { λ r. ⌜ runOn (operate operation place at) self (now (image .entry)) ≡ ran r (now (image .exit)) ⌝ }
+    {
+        match operation {
+            Operation::Internal(op) => self.internal(op),
+            Operation::Dyadic(op, acc) => self.dyadic(op, acc, at, image),
+            Operation::Monadic(op) => self.monadic(op, target_of(place), at, image),
+            Operation::Tst => self.tst(target_of(place), at, image),
+            Operation::Sta(acc) => self.sta(acc, at, image),
+            Operation::Wide(op) => self.wide(op, at, image),
+            Operation::WideStore(op) => self.wide_store(op, at, image),
+            Operation::Psh(acc) => self.push(self.cpu.of(acc), image),
+            Operation::Pul(acc) => self.pul(acc, image),
+            Operation::Pshx => self.push_word(self.cpu.x, image),
+            Operation::Pulx => self.pulx(image),
+            Operation::Branch(test) => self.branch(test, at),
+            Operation::Jmp => self.at(at),
+            Operation::Jsr => self.jsr(at, image),
+            Operation::Bsr => self.jsr(at, image),
+            Operation::Rts => self.rts(image),
+            Operation::Rti => self.rti(image),
+            Operation::Swi => self.swi(image),
+            Operation::Wai => self.wai(image),
+        }
+    }
+
+    // An instruction whose opcode was fetched.
+    pub fn execute(self, i: Instruction, image: &mut [u8]) -> Chip
+        ensures { λ r. ⌜ runOn (execute i) self (now (image .entry)) ≡ ran r (now (image .exit)) ⌝ }
+    {
+        let place = i.place;
+        let o = self.locate(place, image);
+        let operation = i.operation;
+        o.chip.operate(operation, place, o.at, image)
+    }
+}

@@ -1,0 +1,50 @@
+-- Step 4 of a boundary: which causes hold, and the first in 01's order.
+use Prim.Native.Nat.{ℕ}
+use mathlib.Core.Bool.{Bool, true, false, not, cond, _&&_}
+use mathlib.Core.List.{List, [], _∷_}
+use Rattle.tables.specs.declared.Vector.{Vector}
+use Rattle.tables.specs.declared.Vector.the-variants as vectors
+use Rattle.serial.specs.Serial.{serialRequest}
+use Rattle.machine.specs.declared.Machine.{Machine}
+use Rattle.machine.specs.declared.Cause.{Cause}
+use Rattle.machine.specs.declared.Cause.the-variants.{Nmi, Irq1, Icf, Ocf, Tof, Serial}
+use Rattle.machine.specs.declared.Pending.{Pending}
+use Rattle.machine.specs.declared.Pending.the-variants.{Nothing, Due}
+
+-- "a pending NMI; else with I clear the first of IRQ1 low, ICF with EICI, OCF with EOCI, TOF with ETOI, serial (RIE with RDRF or
+-- ORFE, or TIE with TDRE)"
+abbrev pub holds : Cause → Machine → Bool
+holds Nmi m = m .nmi
+holds Irq1 m = not (m .chip .cpu .codes .i) && not (m .irq1)
+holds Icf m = not (m .chip .cpu .codes .i) && (m .chip .bus .timer .icf .set && m .chip .bus .timer .eici)
+holds Ocf m = not (m .chip .cpu .codes .i) && (m .chip .bus .timer .ocf .set && m .chip .bus .timer .eoci)
+holds Tof m = not (m .chip .cpu .codes .i) && (m .chip .bus .timer .tof .set && m .chip .bus .timer .etoi)
+holds Serial m = not (m .chip .cpu .codes .i) && serialRequest (m .chip .bus .serial)
+
+abbrev pub causes : List Cause
+causes = Nmi ∷ Irq1 ∷ Icf ∷ Ocf ∷ Tof ∷ Serial ∷ []
+
+-- the first of some causes that holds
+abbrev pub firstOf : List Cause → Machine → Pending
+firstOf [] m = Nothing
+firstOf (k ∷ ks) m = cond (holds k m) (Due k) (firstOf ks m)
+
+unfoldable pub pendingOf : Machine → Pending
+pendingOf m = firstOf causes m
+
+abbrev pub vectorFor : Cause → Vector
+vectorFor Nmi = vectors.Nmi
+vectorFor Irq1 = vectors.Irq1
+vectorFor Icf = vectors.Icf
+vectorFor Ocf = vectors.Ocf
+vectorFor Tof = vectors.Tof
+vectorFor Serial = vectors.Serial
+
+-- "a pending NMI (then no longer pending)"
+abbrev pub nmiAfter : Cause → Bool → Bool
+nmiAfter Nmi nmi = false
+nmiAfter Irq1 nmi = nmi
+nmiAfter Icf nmi = nmi
+nmiAfter Ocf nmi = nmi
+nmiAfter Tof nmi = nmi
+nmiAfter Serial nmi = nmi

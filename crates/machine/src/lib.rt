@@ -1,0 +1,296 @@
+// The machine: the chip with its lines, its ranges, reset and power-on, interrupts, events and one step.
+use bus::Bus;
+use cpu::Chip;
+use opcodes::Decoded;
+use opcodes::Instruction;
+use ports::Port;
+use ports::Ports;
+use registers::Cpu;
+use serial::Serial;
+use session::Event;
+use tables::Vector;
+use timer::Timer;
+ghost use mathlib.Core.Path.{_≡_};
+ghost use Prim.Native.Nat.{ℕ};
+ghost use Rattle.cpu.specs.Act.{run, out};
+ghost use Rattle.machine.specs.Machine.{rangesOf, passedOf, resetCpu, resetOf, cold, powerOnOf};
+ghost use Rattle.machine.specs.Interrupts.{pendingOf, vectorFor, nmiAfter};
+ghost use Rattle.machine.specs.Events.{appliedOf, onBus};
+ghost use Rattle.machine.specs.Steps.{moved, entryCycles, enteredOf, instructed, stepOf};
+
+// `irq1` is the level of IRQ1, high where true; `nmi` is a pending NMI.
+pub struct Machine {
+    pub chip: Chip,
+    pub irq1: bool,
+    pub nmi: bool,
+}
+
+// What power-on answers.
+pub enum Power {
+    On(Machine),
+    WrongImage,
+    WrongStart,
+}
+
+// What an interrupt comes from, in the order of acceptance.
+pub enum Cause {
+    Nmi,
+    Irq1,
+    Icf,
+    Ocf,
+    Tof,
+    Serial,
+}
+
+pub enum Pending {
+    Nothing,
+    Due(Cause),
+}
+
+// The machine after a step and the cycles that it took: 0 where the opcode is undefined.
+pub struct Moved {
+    pub machine: Machine,
+    pub cycles: u8,
+}
+
+fn reset_cpu(pc: u16) -> Cpu
+    ensures { λ r. ⌜ r ≡ resetCpu pc ⌝ }
+{
+    let codes = arithmetic::Codes {
+        h: false,
+        i: true,
+        n: false,
+        z: false,
+        v: false,
+        c: false,
+    };
+    Cpu {
+        a: 0,
+        b: 0,
+        x: 0,
+        sp: 0,
+        pc: pc,
+        codes: codes,
+        waiting: false,
+    }
+}
+
+// What power-on resets.
+fn cold_machine(r: u32) -> Machine
+    ensures { λ m. ⌜ m ≡ cold r ⌝ }
+{
+    let ports = Ports {
+        port1: Port {
+            direction: 0,
+            latch: 0,
+            pins: 0xFF,
+        },
+        port2: Port {
+            direction: 0,
+            latch: 0,
+            pins: 0x1A,
+        },
+        mode: 0,
+    };
+    let bus = Bus {
+        ports: ports,
+        timer: Timer::reset(),
+        serial: Serial::reset(),
+        rame: true,
+        standby: false,
+        r: r,
+    };
+    let cpu = reset_cpu(0);
+    let chip = Chip { cpu: cpu, bus: bus };
+    Machine {
+        chip: chip,
+        irq1: true,
+        nmi: false,
+    }
+}
+
+// An image and R give a machine, or are refused.
+pub fn power_on(image: &[u8], r: u32) -> Power
+    ensures { λ p. ⌜ p ≡ powerOnOf (now (image .entry)) r ⌝ }
+{
+    if image.len() != 65536 {
+        return Power::WrongImage;
+    }
+    if r > 65536 {
+        return Power::WrongStart;
+    }
+    Power::On(cold_machine(r).reset(image))
+}
+
+fn vector_for(cause: Cause) -> Vector
+    ensures { λ r. ⌜ r ≡ vectorFor cause ⌝ }
+{
+    match cause {
+        Cause::Nmi => Vector::Nmi,
+        Cause::Irq1 => Vector::Irq1,
+        Cause::Icf => Vector::Icf,
+        Cause::Ocf => Vector::Ocf,
+        Cause::Tof => Vector::Tof,
+        Cause::Serial => Vector::Serial,
+    }
+}
+
+fn nmi_after(cause: Cause, nmi: bool) -> bool
+    ensures { λ r. ⌜ r ≡ nmiAfter cause nmi ⌝ }
+{
+    match cause {
+        Cause::Nmi => false,
+        Cause::Irq1 => nmi,
+        Cause::Icf => nmi,
+        Cause::Ocf => nmi,
+        Cause::Tof => nmi,
+        Cause::Serial => nmi,
+    }
+}
+
+impl Machine {
+    pub fn in_ranges(self) -> bool
+        ensures { λ r. ⌜ r ≡ rangesOf self ⌝ }
+    {
+        self.chip.bus.in_ranges()
+    }
+
+    fn with_bus(mut self, b: Bus) -> Machine
+        ensures { λ r. ⌜ r ≡ onBus self b ⌝ }
+    {
+        let mut p = self.chip;
+        p.bus = b;
+        self.chip = p;
+        self
+    }
+
+    // k cycles pass.
+    pub fn pass(self, k: u32) -> Machine
+        ensures { λ r. ⌜ r ≡ passedOf k self ⌝ }
+    {
+        self.with_bus(self.chip.bus.pass(k))
+    }
+
+    pub fn reset(self, image: &[u8]) -> Machine
+        ensures { λ r. ⌜ r ≡ resetOf (now (image .entry)) self ⌝ }
+    {
+        let w = cpu::read_word(
+            self.chip.bus.reset(),
+            image,
+            tables::address_of(Vector::Reset),
+        );
+        let bus = w.next;
+        let cpu = reset_cpu(w.value);
+        let chip = Chip { cpu: cpu, bus: bus };
+        Machine {
+            chip: chip,
+            irq1: self.irq1,
+            nmi: false,
+        }
+    }
+
+    // The first cause that holds.
+    pub fn pending(self) -> Pending
+        ensures { λ r. ⌜ r ≡ pendingOf self ⌝ }
+    {
+        let t = self.chip.bus.timer;
+        if self.nmi {
+            return Pending::Due(Cause::Nmi);
+        }
+        if self.chip.cpu.codes.i {
+            return Pending::Nothing;
+        }
+        if !self.irq1 {
+            return Pending::Due(Cause::Irq1);
+        }
+        if t.icf.set & t.eici {
+            return Pending::Due(Cause::Icf);
+        }
+        if t.ocf.set & t.eoci {
+            return Pending::Due(Cause::Ocf);
+        }
+        if t.tof.set & t.etoi {
+            return Pending::Due(Cause::Tof);
+        }
+        if self.chip.bus.serial.requests() {
+            return Pending::Due(Cause::Serial);
+        }
+        Pending::Nothing
+    }
+
+    // A session's event.
+    pub fn apply(mut self, event: Event, image: &[u8]) -> Machine
+        ensures { λ r. ⌜ r ≡ appliedOf event (now (image .entry)) self ⌝ }
+    {
+        match event {
+            Event::Port1(v) => self.with_bus(self.chip.bus.port1_pins(v)),
+            Event::Port2(v) => self.with_bus(self.chip.bus.port2_pins(v)),
+            Event::Irq1(high) => {
+                self.irq1 = high;
+                self
+            }
+            Event::Nmi => {
+                self.nmi = true;
+                self
+            }
+            Event::Received(v, stop) => self.with_bus(self.chip.bus.receive(v, stop)),
+            Event::Idle => self.with_bus(self.chip.bus.idle()),
+            Event::Reset => self.reset(image),
+        }
+    }
+
+    // An interrupt is entered, and its cycles pass.
+    pub fn enter(self, cause: Cause, image: &mut [u8]) -> Moved
+        ensures { λ r. ⌜ moved r (now (image .exit)) ≡ enteredOf cause (now (image .entry)) self ⌝ }
+    {
+        let k = if self.chip.cpu.waiting { 4u8 } else { 12u8 };
+        let chip = self.chip
+            .enter(tables::address_of(vector_for(cause)), image);
+        let m = Machine {
+            chip: chip,
+            irq1: self.irq1,
+            nmi: nmi_after(cause, self.nmi),
+        };
+        m.after(k)
+    }
+
+    // An instruction whose opcode was read, and its cycles.
+    fn executed(self, i: Instruction, bus: Bus, image: &mut [u8]) -> Moved
+        ensures { λ r. ⌜ moved r (now (image .exit)) ≡ instructed i bus (now (image .entry)) self ⌝ }
+    {
+        let cpu = self.chip.cpu.with_pc(bits::plus(self.chip.cpu.pc, 1));
+        let fetched = Chip { cpu: cpu, bus: bus };
+        let chip = fetched.execute(i, image);
+        let m = Machine {
+            chip: chip,
+            irq1: self.irq1,
+            nmi: self.nmi,
+        };
+        m.after(i.cycles)
+    }
+
+    // One instruction, or none where its opcode is undefined.
+    pub fn step(self, image: &mut [u8]) -> Moved
+        ensures { λ r. ⌜ moved r (now (image .exit)) ≡ stepOf (now (image .entry)) self ⌝ }
+    {
+        let f = self.chip.bus.read(image, self.chip.cpu.pc);
+        let decoded = opcodes::decode(f.value);
+        match decoded {
+            Decoded::Undefined => Moved {
+                machine: self,
+                cycles: 0,
+            },
+            Decoded::Defined(i) => self.executed(i, f.next, image),
+        }
+    }
+
+    // The cycles of a step pass.
+    fn after(self, k: u8) -> Moved
+        ensures { λ r. ⌜ r ≡ record { machine = passedOf k self; cycles = k } ⌝ }
+    {
+        Moved {
+            machine: self.pass(k as u32),
+            cycles: k,
+        }
+    }
+}
