@@ -15,9 +15,9 @@ pub byte-at-spec : {M : Type 1} → statement M
 byte-at-spec =
     tie.close
     (tie.spec
-    (λ c. past-end (c .before .args .session .now) (c .before .args .at) (c .before .args .k) (omega arith)) -- returns
-    (λ c. search needs) -- sub-if2
-    (λ c. past-end (c .before .before .args .session .now) (c .before .before .args .at) (c .before .before .args .k) (omega arith)) -- returns-2
-    (λ c. search needs) -- add-result
-    (λ c. search needs) -- shared-slice-read-result
-    (λ c. search needs)) -- returns-3
+    (λ c. past-end (c .before .args .session .now) (c .before .args .at) (c .before .args .k) (omega arith))  -- returns
+    (λ c. search needs)  -- sub-if2
+    (λ c. past-end (c .before .before .args .session .now) (c .before .before .args .at) (c .before .before .args .k) (omega arith))  -- returns-2
+    (λ c. search needs)  -- add-result
+    (λ c. search needs)  -- shared-slice-read-result
+    (λ c. search needs))  -- returns-3

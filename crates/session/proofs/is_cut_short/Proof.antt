@@ -9,8 +9,8 @@ unfolding cutShort lengthAt
 is-cut-short-spec =
     tie.close
     (tie.spec
-    (λ c. search needs) -- sub-left
-    (λ c. rw (lt-ltb _ _ (c .if1 .taken))) -- returns
-    (λ c κs. search needs) -- two-at-requires
-    (λ c. search needs) -- cast-result
-    (λ c. rw (le-ltb _ _ (c .before .if1 .left), c .two-at .ensures))) -- returns-2
+    (λ c. search needs)  -- sub-left
+    (λ c. rw (lt-ltb _ _ (c .if1 .taken)))  -- returns
+    (λ c κs. search needs)  -- two-at-requires
+    (λ c. search needs)  -- cast-result
+    (λ c. rw (le-ltb _ _ (c .before .if1 .left), c .two-at .ensures)))  -- returns-2

@@ -10,7 +10,7 @@ unfolding lengthFor
 length-for-spec =
     tie.close
     (tie.spec
-    (λ c. search needs) -- mul-result
-    (λ c. search needs) -- array-read-result
-    (λ c. refl) -- returns
-    (λ c. sym (List·getD-eq-default lengths 0 (c .if1 .left)))) -- returns-2
+    (λ c. search needs)  -- mul-result
+    (λ c. search needs)  -- array-read-result
+    (λ c. refl)  -- returns
+    (λ c. sym (List·getD-eq-default lengths 0 (c .if1 .left))))  -- returns-2

@@ -8,8 +8,8 @@ unfolding nextAt lengthAt
 next-at-spec =
     tie.close
     (tie.spec
-    (λ c. search needs) -- add-result
-    (λ c κs. search needs) -- two-at-requires
-    (λ c. search needs) -- cast-result
-    (λ c. search needs) -- add-result-2
-    (λ c. search needs)) -- returns
+    (λ c. search needs)  -- add-result
+    (λ c κs. search needs)  -- two-at-requires
+    (λ c. search needs)  -- cast-result
+    (λ c. search needs)  -- add-result-2
+    (λ c. search needs))  -- returns

@@ -9,6 +9,6 @@ unfolding nextTime
 next-time-spec =
     tie.close
     (tie.spec
-    (λ c. rw (le-ltb _ _ (c .if1 .taken))) -- returns
-    (λ c κs. search needs) -- time-at-requires
-    (λ c. rw (lt-ltb _ _ (c .before .if1 .left)) (c .time-at .ensures))) -- returns-2
+    (λ c. rw (le-ltb _ _ (c .if1 .taken)))  -- returns
+    (λ c κs. search needs)  -- time-at-requires
+    (λ c. rw (lt-ltb _ _ (c .before .if1 .left)) (c .time-at .ensures)))  -- returns-2

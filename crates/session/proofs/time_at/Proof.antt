@@ -8,10 +8,10 @@ unfolding timeAt
 time-at-spec =
     tie.close
     (tie.spec
-    (λ c κs. search needs) -- two-at-requires
-    (λ c. search needs) -- cast-result
-    (λ c κs. search needs) -- two-at-requires-2
-    (λ c. search needs) -- cast-result-2
-    (λ c. search needs) -- mul-result
-    (λ c. search needs) -- add-result
-    (λ c. search needs)) -- returns
+    (λ c κs. search needs)  -- two-at-requires
+    (λ c. search needs)  -- cast-result
+    (λ c κs. search needs)  -- two-at-requires-2
+    (λ c. search needs)  -- cast-result-2
+    (λ c. search needs)  -- mul-result
+    (λ c. search needs)  -- add-result
+    (λ c. search needs))  -- returns
