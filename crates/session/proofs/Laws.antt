@@ -81,7 +81,7 @@ Refusal (Kind n) = Unit
 Refusal (Value n) = Unit
 Refusal (Time n) = Unit
 
-sound-or-not : (x : Checked) → (x ≡ Sound) ⊎ Refusal x
+pub sound-or-not : (x : Checked) → (x ≡ Sound) ⊎ Refusal x
 sound-or-not Sound = inl refl
 sound-or-not (Length n) = inr tt
 sound-or-not (Kind n) = inr tt
