@@ -11,7 +11,7 @@ use lib.Dec.{eqb, leb, ltb}
 use borrow.Author.Tests.{ltb-true, ltb-false, lt-ltb, le-ltb, le-leb, lt-leb, not-false}
 use Rattle.turns.specs.Turn.{Turn, more, done}
 use Rattle.turns.proofs.Laws.{loop-more, loop-done}
-use Rattle.session.specs.Session.{timeAt, lengthAt, kindAt, payloadAt, nextAt, fits, eventOf, eventAt, admitted, dueAt, nextTime, cutShort, unknownKind, wrongLength, wrongValue, wrongTime, faultAt, Mark, past, turnOf, checkFrom, checkOf}
+use Rattle.session.specs.Session.{timeAt, lengthAt, kindAt, payloadAt, nextAt, fits, eventOf, eventAt, admitted, dueAt, nextTime, cutShort, unknownKind, wrongLength, wrongValue, wrongTime, firstFault, faultAt, Mark, past, turnOf, checkFrom, checkOf}
 use Rattle.session.specs.declared.Event.the-variants.{Port1, Port2, Irq1, Nmi, Received, Idle, Reset}
 use Rattle.session.specs.declared.Checked.{Checked}
 use Rattle.session.specs.declared.Checked.the-variants.{Sound, Length, Kind, Value, Time}
@@ -24,11 +24,8 @@ Told n c k l v t (Kind m) = (m ≡ n) × (c ≡ false) × (k ≡ true)
 Told n c k l v t (Value m) = (m ≡ n) × (c ≡ false) × (k ≡ false) × (l ≡ false) × (v ≡ true)
 Told n c k l v t (Time m) = (m ≡ n) × (c ≡ false) × (k ≡ false) × (l ≡ false) × (v ≡ false) × (t ≡ true)
 
-chain : ℕ → Bool → Bool → Bool → Bool → Bool → Checked
-chain n c k l v t = cond c (Length n) (cond k (Kind n) (cond l (Length n) (cond v (Value n) (cond t (Time n) Sound))))
-
-tells : (n : ℕ) (c k l v t : Bool) → Told n c k l v t (chain n c k l v t)
-unfolding chain
+tells : (n : ℕ) (c k l v t : Bool) → Told n c k l v t (firstFault n c k l v t)
+unfolding firstFault
 tells n true k l v t = (refl, inl refl)
 tells n false true l v t = (refl, refl, refl)
 tells n false false true v t = (refl, inr (refl, refl, refl))
@@ -36,8 +33,8 @@ tells n false false false true t = (refl, refl, refl, refl, refl)
 tells n false false false false true = (refl, refl, refl, refl, refl, refl)
 tells n false false false false false = (refl, refl, refl, refl, refl)
 
-told : (n : ℕ) (c k l v t : Bool) (x : Checked) → Told n c k l v t x → chain n c k l v t ≡ x
-unfolding chain
+told : (n : ℕ) (c k l v t : Bool) (x : Checked) → Told n c k l v t x → firstFault n c k l v t ≡ x
+unfolding firstFault
 told n c k l v t Sound h = rw (h .0, h .1, h .2, h .3, h .4)
 told n c k l v t (Length m) (e, inl h) = rw (e, h)
 told n c k l v t (Length m) (e, inr h) = rw (e, h .0, h .1, h .2)
@@ -52,11 +49,11 @@ module _ (s : List ℕ) (n b at : ℕ) where
 
   -- the first fault is x exactly where the tests say so
   pub fault-told : (x : Checked) → faultAt s n b at ≡ x → Fault x
-  unfolding faultAt chain
+  unfolding faultAt
   fault-told x e = subst Fault e (tells n (cutShort s at) (unknownKind s at) (wrongLength s at) (wrongValue s at) (wrongTime s b at))
 
   pub told-fault : (x : Checked) → Fault x → faultAt s n b at ≡ x
-  unfolding faultAt chain
+  unfolding faultAt
   told-fault x h = told n (cutShort s at) (unknownKind s at) (wrongLength s at) (wrongValue s at) (wrongTime s b at) x h
 
 neither : (a b : Bool) → (a || b) ≡ false → (a ≡ false) × (b ≡ false)

@@ -2,7 +2,7 @@
 ghost use mathlib.Core.Path.{_≡_};
 ghost use Prim.Native.Nat.{_≤_, _<_};
 ghost use lib.ListN.{length};
-ghost use Rattle.session.specs.Session.{byteAt, two, four, timeAt, nextAt, lengthFor, fits, eventAt, dueAt, nextTime, cutShort, faultAt, checkOf};
+ghost use Rattle.session.specs.Session.{byteAt, two, four, timeAt, nextAt, lengthFor, fits, eventAt, dueAt, nextTime, cutShort, firstFault, faultAt, checkOf};
 
 // What a record tells the machine.
 pub enum Event {
@@ -124,29 +124,46 @@ fn is_cut_short(session: &[u8], at: usize) -> bool
     (said < 2) | (left - 2 < said as usize)
 }
 
-// The first fault of the record at a place, `Sound` where it has none.
+// The first test of a record that fails, in 01's order; `Sound` where none does.
+fn first_fault(
+    number: usize,
+    short: bool,
+    kind: bool,
+    size: bool,
+    value: bool,
+    time: bool,
+) -> Checked
+    ensures { λ r. ⌜ r ≡ firstFault number short kind size value time ⌝ }
+{
+    if short {
+        return Checked::Length(number);
+    }
+    if kind {
+        return Checked::Kind(number);
+    }
+    if size {
+        return Checked::Length(number);
+    }
+    if value {
+        return Checked::Value(number);
+    }
+    if time {
+        return Checked::Time(number);
+    }
+    Checked::Sound
+}
+
 fn fault_at(session: &[u8], number: usize, before: u32, at: usize) -> Checked
     requires { ⌜ at < length (now session) ⌝ }
     ensures { λ r. ⌜ r ≡ faultAt (now (session .entry)) number before at ⌝ }
 {
-    if is_cut_short(session, at) {
-        return Checked::Length(number);
-    }
+    let short = is_cut_short(session, at);
+    let said = two_at(session, at, 0);
     let kind = two_at(session, at, 2);
+    let time = time_at(session, at);
+    let fit = does_fit(kind, byte_at(session, at, 8), byte_at(session, at, 9));
     let own = length_for(kind);
-    if own == 0 {
-        return Checked::Kind(number);
-    }
-    if two_at(session, at, 0) != own {
-        return Checked::Length(number);
-    }
-    if !does_fit(kind, byte_at(session, at, 8), byte_at(session, at, 9)) {
-        return Checked::Value(number);
-    }
-    if time_at(session, at) < before {
-        return Checked::Time(number);
-    }
-    Checked::Sound
+    first_fault(number, short, own == 0, said != own, !fit, time < before)
 }
 
 // The whole session, from the front: the first bad record decides.
