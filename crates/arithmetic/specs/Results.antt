@@ -160,12 +160,13 @@ monadicOf Clr a k = byteAfter 0 false false k
 
 -- 01: "DAA adds $06 if the low digit is above 9 or H; adds $60 and sets C if A at the start was above $99 or C was set;
 -- V becomes 0 (house rule)."
+abbrev pub adjustedOf : ℕ → Bool → Bool → ℕ
+adjustedOf a low high = (a + weight low 0x06 + weight high 0x60) % 256
+
 unfoldable pub daaOf : ℕ → Codes → Byte
 daaOf a k =
-    let units = ltb 9 (a % 16) || k .h in
-    let tens = ltb 0x99 a || k .c in
-    let r = (a + weight units 0x06 + weight tens 0x60) % 256 in
-    byteAfter r false tens k
+    let high = ltb 0x99 a || k .c in
+    byteAfter (adjustedOf a (ltb 9 (a % 16) || k .h) high) false high k
 
 -- MUL: A x B; only C changes. Note 11: "(Bit C) Set equal to result of Bit 7 (AccB)", the low byte of the product.
 unfoldable pub mulOf : ℕ → ℕ → Codes → Word

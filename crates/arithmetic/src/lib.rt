@@ -1,7 +1,7 @@
 // The results of the instructions, of bytes and of words, with the condition codes that they leave; and the branch tests.
 ghost use mathlib.Core.Path.{_≡_};
 ghost use Rattle.arithmetic.specs.Codes.{codesByte, codesOf};
-ghost use Rattle.arithmetic.specs.Results.{after, byteAfter, wordAfter, movedOf, moved16Of, loadedOf, testedOf, indexedOf, addWithOf, subWithOf, addOf, subOf, add16Of, sub16Of, dyadicOf, shiftedOf, shifted16Of, leftOf, rightOf, asl16Of, lsr16Of, negOf, comOf, decOf, incOf, monadicOf, daaOf, mulOf};
+ghost use Rattle.arithmetic.specs.Results.{after, byteAfter, wordAfter, movedOf, moved16Of, loadedOf, testedOf, indexedOf, addWithOf, subWithOf, addOf, subOf, add16Of, sub16Of, dyadicOf, shiftedOf, shifted16Of, leftOf, rightOf, asl16Of, lsr16Of, negOf, comOf, decOf, incOf, monadicOf, adjustedOf, daaOf, mulOf};
 ghost use Rattle.arithmetic.specs.Branches.{takenOf};
 
 // The condition codes.
@@ -291,14 +291,19 @@ pub fn monadic(op: opcodes::Monadic, a: u8, k: Codes) -> Byte
     }
 }
 
+fn adjusted(a: u8, low: bool, high: bool) -> u8
+    ensures { λ r. ⌜ r ≡ adjustedOf a low high ⌝ }
+{
+    ((a as u16 + low as u16 * 0x06 + high as u16 * 0x60) % 256) as u8
+}
+
 // The byte of two digits that a sum of such bytes stands for.
 pub fn daa(a: u8, k: Codes) -> Byte
     ensures { λ o. ⌜ o ≡ daaOf a k ⌝ }
 {
-    let units = (a % 16 > 9) | k.h;
-    let tens = (a > 0x99) | k.c;
-    let r = ((a as u16 + units as u16 * 0x06 + tens as u16 * 0x60) % 256) as u8;
-    settled(r, false, tens, k)
+    let low = (a % 16 > 9) | k.h;
+    let high = (a > 0x99) | k.c;
+    settled(adjusted(a, low, high), false, high, k)
 }
 
 pub fn mul(a: u8, b: u8, mut k: Codes) -> Word
