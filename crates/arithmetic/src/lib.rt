@@ -47,7 +47,7 @@ impl Codes {
     }
 
     // N and Z of a byte, with V and C.
-    fn left_by(mut self, r: u8, v: bool, c: bool) -> Codes
+    fn after(mut self, r: u8, v: bool, c: bool) -> Codes
         ensures { λ k. ⌜ k ≡ after 128 r v c self ⌝ }
     {
         self.n = r >= 128;
@@ -58,7 +58,7 @@ impl Codes {
     }
 
     // N and Z of a word, with V and C.
-    fn left_by16(mut self, r: u16, v: bool, c: bool) -> Codes
+    fn after16(mut self, r: u16, v: bool, c: bool) -> Codes
         ensures { λ k. ⌜ k ≡ after 32768 r v c self ⌝ }
     {
         self.n = r >= 32768;
@@ -69,17 +69,17 @@ impl Codes {
     }
 }
 
-fn settled(r: u8, v: bool, c: bool, k: Codes) -> Byte
+fn byte_after(r: u8, v: bool, c: bool, k: Codes) -> Byte
     ensures { λ o. ⌜ o ≡ byteAfter r v c k ⌝ }
 {
-    let codes = k.left_by(r, v, c);
+    let codes = k.after(r, v, c);
     Byte { value: r, codes }
 }
 
-fn settled16(r: u16, v: bool, c: bool, k: Codes) -> Word
+fn word_after(r: u16, v: bool, c: bool, k: Codes) -> Word
     ensures { λ o. ⌜ o ≡ wordAfter r v c k ⌝ }
 {
-    let codes = k.left_by16(r, v, c);
+    let codes = k.after16(r, v, c);
     Word { value: r, codes }
 }
 
@@ -87,20 +87,20 @@ fn settled16(r: u16, v: bool, c: bool, k: Codes) -> Word
 pub fn moved(a: u8, k: Codes) -> Codes
     ensures { λ r. ⌜ r ≡ movedOf a k ⌝ }
 {
-    k.left_by(a, false, k.c)
+    k.after(a, false, k.c)
 }
 
 // Of a word that is loaded or stored.
 pub fn moved16(w: u16, k: Codes) -> Codes
     ensures { λ r. ⌜ r ≡ moved16Of w k ⌝ }
 {
-    k.left_by16(w, false, k.c)
+    k.after16(w, false, k.c)
 }
 
 pub fn tested(a: u8, k: Codes) -> Codes
     ensures { λ r. ⌜ r ≡ testedOf a k ⌝ }
 {
-    k.left_by(a, false, false)
+    k.after(a, false, false)
 }
 
 // Of X counted up or down.
@@ -118,7 +118,7 @@ fn add_with(a: u8, b: u8, carry: bool, mut k: Codes) -> Byte
     let s = a as u16 + b as u16 + carry as u16;
     let r = (s % 256) as u8;
     k.h = half >= 16;
-    settled(
+    byte_after(
         r,
         ((a >= 128) == (b >= 128)) & ((a >= 128) ^ (r >= 128)),
         s >= 256,
@@ -131,7 +131,7 @@ fn sub_with(a: u8, b: u8, borrow: bool, k: Codes) -> Byte
 {
     let s = b as u16 + borrow as u16;
     let r = ((a as u16 + 256 - s) % 256) as u8;
-    settled(
+    byte_after(
         r,
         ((a >= 128) ^ (b >= 128)) & ((a >= 128) ^ (r >= 128)),
         (a as u16) < s,
@@ -156,7 +156,7 @@ pub fn add16(a: u16, b: u16, k: Codes) -> Word
 {
     let s = a as u32 + b as u32;
     let r = (s % 65536) as u16;
-    settled16(
+    word_after(
         r,
         ((a >= 32768) == (b >= 32768)) & ((a >= 32768) ^ (r >= 32768)),
         s >= 65536,
@@ -168,7 +168,7 @@ pub fn sub16(a: u16, b: u16, k: Codes) -> Word
     ensures { λ o. ⌜ o ≡ sub16Of a b k ⌝ }
 {
     let r = ((a as u32 + 65536 - b as u32) % 65536) as u16;
-    settled16(
+    word_after(
         r,
         ((a >= 32768) ^ (b >= 32768)) & ((a >= 32768) ^ (r >= 32768)),
         a < b,
@@ -211,23 +211,23 @@ pub fn dyadic(op: opcodes::Dyadic, a: u8, b: u8, k: Codes) -> Byte
 fn shifted(r: u8, c: bool, k: Codes) -> Byte
     ensures { λ o. ⌜ o ≡ shiftedOf r c k ⌝ }
 {
-    settled(r, (r >= 128) ^ c, c, k)
+    byte_after(r, (r >= 128) ^ c, c, k)
 }
 
 fn shifted16(r: u16, c: bool, k: Codes) -> Word
     ensures { λ o. ⌜ o ≡ shifted16Of r c k ⌝ }
 {
-    settled16(r, (r >= 32768) ^ c, c, k)
+    word_after(r, (r >= 32768) ^ c, c, k)
 }
 
-fn shift_left(a: u8, incoming: bool, k: Codes) -> Byte
+fn left(a: u8, incoming: bool, k: Codes) -> Byte
     ensures { λ o. ⌜ o ≡ leftOf a incoming k ⌝ }
 {
     let r = (a as u16 * 2 % 256) as u8 + incoming as u8;
     shifted(r, a / 128 % 2 == 1, k)
 }
 
-fn shift_right(a: u8, incoming: bool, k: Codes) -> Byte
+fn right(a: u8, incoming: bool, k: Codes) -> Byte
     ensures { λ o. ⌜ o ≡ rightOf a incoming k ⌝ }
 {
     let r = a / 2 + incoming as u8 * 128;
@@ -250,27 +250,27 @@ fn neg(a: u8, k: Codes) -> Byte
     ensures { λ o. ⌜ o ≡ negOf a k ⌝ }
 {
     let r = ((256 - a as u16) % 256) as u8;
-    settled(r, r == 128, r != 0, k)
+    byte_after(r, r == 128, r != 0, k)
 }
 
 fn com(a: u8, k: Codes) -> Byte
     ensures { λ o. ⌜ o ≡ comOf a k ⌝ }
 {
-    settled(!a, false, true, k)
+    byte_after(!a, false, true, k)
 }
 
 fn dec(a: u8, k: Codes) -> Byte
     ensures { λ o. ⌜ o ≡ decOf a k ⌝ }
 {
     let r = ((a as u16 + 255) % 256) as u8;
-    settled(r, a == 128, k.c, k)
+    byte_after(r, a == 128, k.c, k)
 }
 
 fn inc(a: u8, k: Codes) -> Byte
     ensures { λ o. ⌜ o ≡ incOf a k ⌝ }
 {
     let r = ((a as u16 + 1) % 256) as u8;
-    settled(r, a == 127, k.c, k)
+    byte_after(r, a == 127, k.c, k)
 }
 
 // One byte that is written back.
@@ -280,14 +280,14 @@ pub fn monadic(op: opcodes::Monadic, a: u8, k: Codes) -> Byte
     match op {
         opcodes::Monadic::Neg => neg(a, k),
         opcodes::Monadic::Com => com(a, k),
-        opcodes::Monadic::Lsr => shift_right(a, false, k),
-        opcodes::Monadic::Ror => shift_right(a, k.c, k),
-        opcodes::Monadic::Asr => shift_right(a, a / 128 % 2 == 1, k),
-        opcodes::Monadic::Asl => shift_left(a, false, k),
-        opcodes::Monadic::Rol => shift_left(a, k.c, k),
+        opcodes::Monadic::Lsr => right(a, false, k),
+        opcodes::Monadic::Ror => right(a, k.c, k),
+        opcodes::Monadic::Asr => right(a, a / 128 % 2 == 1, k),
+        opcodes::Monadic::Asl => left(a, false, k),
+        opcodes::Monadic::Rol => left(a, k.c, k),
         opcodes::Monadic::Dec => dec(a, k),
         opcodes::Monadic::Inc => inc(a, k),
-        opcodes::Monadic::Clr => settled(0, false, false, k),
+        opcodes::Monadic::Clr => byte_after(0, false, false, k),
     }
 }
 
@@ -303,7 +303,7 @@ pub fn daa(a: u8, k: Codes) -> Byte
 {
     let low = (a % 16 > 9) | k.h;
     let high = (a > 0x99) | k.c;
-    settled(adjusted(a, low, high), false, high, k)
+    byte_after(adjusted(a, low, high), false, high, k)
 }
 
 pub fn mul(a: u8, b: u8, mut k: Codes) -> Word
