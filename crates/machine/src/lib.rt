@@ -12,7 +12,7 @@ use tables::Vector;
 use timer::Timer;
 ghost use mathlib.Core.Path.{_≡_};
 ghost use Prim.Native.Nat.{ℕ};
-ghost use Rattle.cpu.specs.Act.{run, out};
+ghost use Rattle.bus.specs.Units.{byteSent};
 ghost use Rattle.machine.specs.Machine.{rangesOf, passedOf, resetCpu, resetOf, cold, powerOnOf};
 ghost use Rattle.machine.specs.Interrupts.{pendingOf, vectorFor, nmiAfter};
 ghost use Rattle.machine.specs.Events.{appliedOf, onBus};
@@ -169,6 +169,13 @@ impl Machine {
         ensures { λ r. ⌜ r ≡ passedOf k self ⌝ }
     {
         self.with_bus(self.chip.bus.pass(k))
+    }
+
+    // A byte was sent.
+    pub fn send(self) -> Machine
+        ensures { λ r. ⌜ r ≡ onBus self (byteSent (self .chip .bus)) ⌝ }
+    {
+        self.with_bus(self.chip.bus.send())
     }
 
     pub fn reset(self, image: &[u8]) -> Machine

@@ -1,0 +1,222 @@
+// One boundary of a run: records, sending, interrupt, waiting cycle or instruction, with the counts.
+use machine::Cause;
+use machine::Machine;
+use machine::Pending;
+ghost use mathlib.Core.Path.{_≡_};
+ghost use mathlib.Core.List.{List};
+ghost use Prim.Native.Nat.{ℕ, _+_, _<_, _≤_, _^_};
+ghost use lib.ListN.{length};
+ghost use Rattle.boundary.specs.Boundary.{worldOf, movedOf, takenOf, recordsOf, sentState, sentWorld, waitedState, enteredWorld, executedOf, actOf, sendOf, boundaryOf, turned};
+ghost use Rattle.boundary.specs.Counts.{Fine};
+ghost use Rattle.machine.specs.Steps.{stepOf};
+
+// A count each, so that one cannot be taken for another.
+pub struct Cycles(pub u32);
+
+pub struct Instructions(pub u32);
+
+pub struct Entries(pub u32);
+
+pub struct Records(pub usize);
+
+pub struct Sent(pub usize);
+
+pub struct Leaps(pub u32);
+
+// A run's state: `place` is where the first unused record stands, `inside` tells that the boundary before was a waiting cycle.
+pub struct State {
+    pub machine: Machine,
+    pub place: usize,
+    pub used: Records,
+    pub cycles: Cycles,
+    pub instructions: Instructions,
+    pub entries: Entries,
+    pub sent: Sent,
+    pub leaps: Leaps,
+    pub inside: bool,
+}
+
+pub enum Stop {
+    Limit,
+    Undefined,
+    Full,
+}
+
+pub enum Progress {
+    Going,
+    Stopped(Stop),
+}
+
+pub struct Turned {
+    pub state: State,
+    pub progress: Progress,
+}
+
+impl State {
+    // The machine is m, and the counts have grown.
+    pub fn moved(
+        self,
+        m: Machine,
+        cycles: u32,
+        instructions: u32,
+        entries: u32,
+        leaps: u32,
+        inside: bool,
+    ) -> State
+        requires { ⌜ (self .cycles .0 + cycles < 2 ^ 32) × (self .instructions .0 + instructions < 2 ^ 32) × (self .entries .0 + entries < 2 ^ 32) × (self .leaps .0 + leaps < 2 ^ 32) ⌝ }
+        ensures { λ r. ⌜ r ≡ movedOf self m cycles instructions entries leaps inside ⌝ }
+    {
+        let cycles = Cycles(self.cycles.0 + cycles);
+        let instructions = Instructions(self.instructions.0 + instructions);
+        let entries = Entries(self.entries.0 + entries);
+        let leaps = Leaps(self.leaps.0 + leaps);
+        let used = self.used;
+        let sent = self.sent;
+        State {
+            machine: m,
+            place: self.place,
+            used: used,
+            cycles: cycles,
+            instructions: instructions,
+            entries: entries,
+            sent: sent,
+            leaps: leaps,
+            inside: inside,
+        }
+    }
+
+    // The record at its place is applied.
+    fn take(mut self, session: &[u8], image: &[u8]) -> State
+        requires { ⌜ (self .place < length (now session)) × (self .used .0 ≤ self .place) ⌝ }
+        ensures { λ r. ⌜ r ≡ takenOf (now (session .entry)) (now (image .entry)) self ⌝ }
+    {
+        let at = self.place;
+        let m = self.machine.apply(session::event_at(session, at), image);
+        self.machine = m;
+        self.place = session::next_at(session, at);
+        let used = Records(self.used.0 + 1);
+        self.used = used;
+        self.inside = false;
+        self
+    }
+
+    // Step 2.
+    fn apply_records(self, session: &[u8], image: &[u8]) -> State
+        requires { ⌜ self .used .0 ≤ self .place ⌝ }
+        ensures { λ r. ⌜ r ≡ recordsOf (now (session .entry)) (now (image .entry)) self ⌝ }
+    {
+        let mut s = self;
+        while session::is_due(session, s.cycles.0, s.place) {
+            s = s.take(session, image);
+        }
+        s
+    }
+
+    // A byte was sent.
+    fn after_sending(mut self) -> State
+        requires { ⌜ self .sent .0 + 1 < 2 ^ 64 ⌝ }
+        ensures { λ r. ⌜ r ≡ sentState self ⌝ }
+    {
+        let m = self.machine.send();
+        self.machine = m;
+        let sent = Sent(self.sent.0 + 1);
+        self.sent = sent;
+        self.inside = false;
+        self
+    }
+
+    // Step 4.
+    fn enter(self, cause: Cause, image: &mut [u8]) -> State
+        requires { ⌜ Fine self × (self .cycles .0 < 1000000000) ⌝ }
+        ensures { λ r. ⌜ ((o : List ℕ) → worldOf r (now (image .exit)) o ≡ enteredWorld cause (worldOf self (now (image .entry)) o)) ⌝ }
+    {
+        let e = self.machine.enter(cause, image);
+        self.moved(e.machine, e.cycles as u32, 0, 1, 0, false)
+    }
+
+    // Step 5.
+    fn wait(self) -> State
+        requires { ⌜ Fine self × (self .cycles .0 < 1000000000) ⌝ }
+        ensures { λ r. ⌜ r ≡ waitedState self ⌝ }
+    {
+        let m = self.machine.pass(1);
+        if self.inside {
+            return self.moved(m, 1, 0, 0, 0, true);
+        }
+        self.moved(m, 1, 0, 0, 1, true)
+    }
+
+    // Step 6.
+    fn step(self, image: &mut [u8]) -> Turned
+        requires { ⌜ Fine self × (self .cycles .0 < 1000000000) ⌝ }
+        ensures { λ r. ⌜ ((o : List ℕ) → turned r (now (image .exit)) o ≡ executedOf (stepOf (now (image .entry)) (self .machine)) (worldOf self (now (image .entry)) o)) ⌝ }
+    {
+        let e = self.machine.step(image);
+        if e.cycles == 0 {
+            return Turned {
+                state: self,
+                progress: Progress::Stopped(Stop::Undefined),
+            };
+        }
+        Turned {
+            state: self.moved(e.machine, e.cycles as u32, 1, 0, 0, false),
+            progress: Progress::Going,
+        }
+    }
+
+    // Steps 4 to 6.
+    fn act(self, image: &mut [u8]) -> Turned
+        requires { ⌜ Fine self × (self .cycles .0 < 1000000000) ⌝ }
+        ensures { λ r. ⌜ ((o : List ℕ) → turned r (now (image .exit)) o ≡ actOf (worldOf self (now (image .entry)) o)) ⌝ }
+    {
+        let p = self.machine.pending();
+        match p {
+            Pending::Due(cause) => Turned {
+                state: self.enter(cause, image),
+                progress: Progress::Going,
+            },
+            Pending::Nothing => {
+                if self.machine.chip.cpu.waiting {
+                    return Turned {
+                        state: self.wait(),
+                        progress: Progress::Going,
+                    };
+                }
+                self.step(image)
+            }
+        }
+    }
+
+    // Steps 3 to 6.
+    fn send(self, image: &mut [u8], output: &mut [u8]) -> Turned
+        requires { ⌜ Fine self × (self .cycles .0 < 1000000000) ⌝ }
+        ensures { λ r. ⌜ turned r (now (image .exit)) (now (output .exit)) ≡ sendOf (worldOf self (now (image .entry)) (now (output .entry))) ⌝ }
+    {
+        if self.machine.chip.bus.serial.wants_to_send() {
+            let at = self.sent.0;
+            if output.len() <= at {
+                return Turned {
+                    state: self,
+                    progress: Progress::Stopped(Stop::Full),
+                };
+            }
+            output[at] = self.machine.chip.bus.serial.transmit;
+            return self.after_sending().act(image);
+        }
+        self.act(image)
+    }
+
+    // One boundary.
+    pub fn boundary(self, session: &[u8], n: u32, image: &mut [u8], output: &mut [u8]) -> Turned
+        requires { ⌜ Fine self × (n ≤ 1000000000) ⌝ }
+        ensures { λ r. ⌜ turned r (now (image .exit)) (now (output .exit)) ≡ boundaryOf (now (session .entry)) n (worldOf self (now (image .entry)) (now (output .entry))) ⌝ }
+    {
+        if n <= self.cycles.0 {
+            return Turned {
+                state: self,
+                progress: Progress::Stopped(Stop::Limit),
+            };
+        }
+        self.apply_records(session, image).send(image, output)
+    }
+}
