@@ -1,0 +1,4 @@
+pub mod Picks
+pub mod Feeding
+pub mod Cases
+pub mod Runs
