@@ -13,5 +13,6 @@ write-spec =
     (λ c. search needs)
     (λ c. search needs)
     (λ c κs. search needs)
+    (λ c κs. search needs)
     (λ c. search needs)
-    (λ c. (rw (plain _ (c .before .before .before .before .before .if1 .left)), rw (plain _ (c .before .before .before .before .before .if1 .left)) (c .before .before .store .ensures))))
+    (λ c. (rw (plain _ (c .before .before .before .before .before .if1 .left)), rw (plain _ (c .before .before .before .before .before .if1 .left), ← c .before .before .before .is-writable .ensures) (c .before .before .store .ensures))))
