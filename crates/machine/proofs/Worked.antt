@@ -44,6 +44,9 @@ cpu s = s .machine .chip .cpu
 abbrev codes : Stepped → ℕ
 codes s = codesByte (cpu s .codes)
 
+abbrev accumulatorA : Stepped → ℕ
+accumulatorA s = cpu s .a
+
 abbrev double : Stepped → ℕ
 double s = paired (cpu s .a) (cpu s .b)
 
@@ -89,10 +92,10 @@ two f s = f s ∷ codes s ∷ []
 abbrev pub table : List Row
 table =
     (two double (stepped 0xFF 0xFF 0 (0x3D ∷ [])) is 0xFE01 ∷ 0xC0 ∷ [])  -- MUL FF by FF gives FE01, C 0
-    ∷ (two (λ s. cpu s .a) (stepped 0x9A 0 0 (0x19 ∷ [])) is 0x00 ∷ 0xC5 ∷ [])  -- DAA of 9A, H and C 0, gives 00, C and Z 1
-    ∷ (two (λ s. cpu s .a) (stepped 0x80 0 0 (0x40 ∷ [])) is 0x80 ∷ 0xCB ∷ [])  -- NEGA 80 gives 80, V and C 1
-    ∷ (two (λ s. cpu s .a) (stepped 0x00 0 0 (0x40 ∷ [])) is 0x00 ∷ 0xC4 ∷ [])  -- NEGA 00, C 0
-    ∷ (two (λ s. cpu s .a) (stepped 0x7F 0 0 (0x4C ∷ [])) is 0x80 ∷ 0xCA ∷ [])  -- INCA 7F gives 80, V 1
+    ∷ (two accumulatorA (stepped 0x9A 0 0 (0x19 ∷ [])) is 0x00 ∷ 0xC5 ∷ [])  -- DAA of 9A, H and C 0, gives 00, C and Z 1
+    ∷ (two accumulatorA (stepped 0x80 0 0 (0x40 ∷ [])) is 0x80 ∷ 0xCB ∷ [])  -- NEGA 80 gives 80, V and C 1
+    ∷ (two accumulatorA (stepped 0x00 0 0 (0x40 ∷ [])) is 0x00 ∷ 0xC4 ∷ [])  -- NEGA 00, C 0
+    ∷ (two accumulatorA (stepped 0x7F 0 0 (0x4C ∷ [])) is 0x80 ∷ 0xCA ∷ [])  -- INCA 7F gives 80, V 1
     ∷ (one codes (stepped 0 0 0x8000 (0x8C ∷ 0x00 ∷ 0x01 ∷ [])) is 0xC2 ∷ [])  -- CPX 8000 against 0001: V 1, C 0, N 0
     ∷ (one (λ s. cpu s .x) (stepped 0 0x20 0xFFF0 (0x3A ∷ [])) is 0x0010 ∷ [])  -- ABX FFF0 with B 20 gives 0010
     ∷ (one (λ s. cpu s .sp) (stepped 0 0 0 (0x35 ∷ [])) is 0xFFFF ∷ [])  -- TXS with X 0 gives FFFF
@@ -111,7 +114,7 @@ pub worked : map found table ≡ map meant table
 unfolding resetOf resetAct stepOf instructed appliedOf decodeOf codesByte codesOf movedOf sub16Of monadicOf daaOf mulOf xor readPort readPorts resetPorts readTimer writeTimer ticks resetTimer trcsOf writeSerial receivedByte ticksSerial resetSerial readOf writeOf storeOf passed resetBus run read write _>>=_ read2 operand monadic sta wide push push2 stackAll vectored enter enteredOf operate execute
 worked = refl
 
--- the last of 01's rows, for every image and R
+-- "Power-on read of $03: 5A", whatever the image and R
 pub power-read : (image : List ℕ) (r : ℕ) → readOf image 0x03 (resetOf image (cold r) .chip .bus) .value ≡ 0x5A
 unfolding resetOf resetBus resetPorts resetTimer readOf readPorts readPort
 power-read image r = rw (vector-read image (resetBus (cold r .chip .bus)))
