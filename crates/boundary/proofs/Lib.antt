@@ -2,3 +2,9 @@ pub mod Picks
 pub mod Feeding
 pub mod Cases
 pub mod Runs
+pub mod Keeps
+pub mod LeapBound
+pub mod Output
+pub mod Kept
+pub mod InRanges
+pub mod Trace
