@@ -8,3 +8,4 @@ pub mod Output
 pub mod Kept
 pub mod InRanges
 pub mod Trace
+pub mod Worked
