@@ -1,4 +1,4 @@
--- What a run keeps, and where it ends: its image's length, the bytes that no write changes, its cycles, its counts and its place
+-- What a run keeps, and where it ends: its image's length, its cycles, its counts and its place
 -- in the session. Assumes nothing.
 use Prim.Native.Nat.{ℕ, _+_, _≤_, _<_}
 use native.Mathlib.Omega.{arith}

@@ -6,6 +6,8 @@ pub mod Keeps
 pub mod LeapBound
 pub mod Output
 pub mod Kept
+pub mod ReadOnly
 pub mod InRanges
+pub mod Stretches
 pub mod Trace
 pub mod Worked

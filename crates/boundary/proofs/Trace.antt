@@ -3,7 +3,7 @@
 use Prim.Native.Nat.{ℕ, _+_, _-_, _<_}
 use native.Mathlib.Omega.{arith}
 use mathlib.Core.Path.{_≡_, refl, sym, ap, subst, _∙_}
-use mathlib.Core.Bool.{Bool, true, false, not, cond, _&&_, true≢false}
+use mathlib.Core.Bool.{Bool, true, false, not, cond, _&&_}
 use mathlib.Core.List.{List, [], _∷_, _++_}
 use lib.Dec.{leb, eqb}
 use lib.ListN.{length}
@@ -18,118 +18,11 @@ use Rattle.boundary.specs.declared.State.{State}
 use Rattle.boundary.specs.declared.Stop.the-variants.{Full}
 use Rattle.boundary.specs.Boundary.{World, Ended, worldOf, endedOf, takenOf, recordsOf, sendsOf, sentState, sentWorld, enteredWorld, waitedState, executedOf, onPending, actOf, sendOf, boundaryOf, runOf}
 use Rattle.boundary.specs.Start.{startWorld, ranOf}
-use Rattle.boundary.specs.Trace.{Taken, entry, waitingCycle, instruction, isEntry, isInstruction, stepBy, takenBy, Mark, markOf, Traced, marked, tracedTurn, traceOf, waits, quiet, every, isStretch, joins, groups, countOf, leapsOf, entriesOf, instructionsOf}
-use Rattle.boundary.proofs.Picks.{picks, passes, cases}
+use Rattle.boundary.specs.Trace.{Taken, entry, waitingCycle, instruction, isEntry, isInstruction, stepBy, takenBy, Mark, markOf, Traced, marked, tracedTurn, traceOf, waits, countOf, leapsOf, entriesOf, instructionsOf}
+use Rattle.boundary.proofs.Picks.{cases}
 use Rattle.boundary.proofs.Feeding.{due, records-more, records-done, records-keep}
+use Rattle.boundary.proofs.Stretches.{leaps-none, lastWaits, last-snoc, opens, leaps-snoc, count-snoc}
 use Rattle.boundary.proofs.Runs.{Then, then-more, then-done, run-falls, run-more, run-done}
-
-both : (a b : Bool) → (a && b) ≡ true → (a ≡ true) × (b ≡ true)
-both true b e = (refl, e)
-both false b e = absurd (true≢false (sym e))
-
--- the first group of the marks m and then ms: m, and then quiet ones only
-record Front (m : Mark) (ms : List Mark) : Type 0 where
-  after : List Mark
-  others : List (List Mark)
-  groups-are : groups (m ∷ ms) ≡ (m ∷ after) ∷ others
-  quiet-after : every quiet after ≡ true
-
-front : (m : Mark) (ms : List Mark) → Front m ms
-front m [] = record { after = []; others = []; groups-are = refl; quiet-after = refl }
-front m (x ∷ ms) = by (front x ms) (isStretch (m ∷ x ∷ [])) refl
-  where
-    by : Front x ms → (b : Bool) → isStretch (m ∷ x ∷ []) ≡ b → Front m (x ∷ ms)
-    by f true e =
-        record {
-          after = x ∷ f .after;
-          others = f .others;
-          groups-are = ap (joins m) (f .groups-are) ∙ picks _ _ e;
-          quiet-after = rw (both (quiet x) true (both (waits m) (quiet x && true) e .1) .0) (f .quiet-after);
-        }
-    by f false e = record { after = []; others = (x ∷ f .after) ∷ f .others; groups-are = ap (joins m) (f .groups-are) ∙ passes _ _ e; quiet-after = refl }
-
--- One more mark in front: it is a leap of its own where it waits, and where the next goes on with it that one is none.
-abbrev quietFirst : List Mark → Bool
-quietFirst [] = false
-quietFirst (x ∷ ms) = quiet x
-
-count-cond : (b : Bool) (xs ys : List (List Mark)) → countOf isStretch (cond b xs ys) ≡ cond b (countOf isStretch xs) (countOf isStretch ys)
-count-cond true xs ys = refl
-count-cond false xs ys = refl
-
--- m waits (a), the next waits (b) and is quiet (c), and those that go on with it are quiet (t); k leaps follow
-one-more : (a b c t : Bool) (k : ℕ) → t ≡ true
-    → cond (a && ((b && c) && true)) (cond (a && ((b && c) && t)) 1 0 + k) (cond (a && true) 1 0 + (cond (b && t) 1 0 + k)) + cond (a && (b && c)) 1 0
-    ≡ cond a 1 0 + (cond (b && t) 1 0 + k)
-one-more a b c false k e = absurd (true≢false (sym e))
-one-more true true true true k e = omega arith
-one-more true true false true k e = omega arith
-one-more true false c true k e = omega arith
-one-more false true c true k e = omega arith
-one-more false false c true k e = omega arith
-
-alone : (a : Bool) → cond (a && true) 1 0 + 0 + cond (a && false) 1 0 ≡ cond a 1 0 + 0
-alone true = refl
-alone false = refl
-
-leaps-cons : (m : Mark) (ms : List Mark) → leapsOf (m ∷ ms) + cond (waits m && quietFirst ms) 1 0 ≡ cond (waits m) 1 0 + leapsOf ms
-unfolding leapsOf
-leaps-cons m [] = alone (waits m)
-leaps-cons m (x ∷ ms) =
-    let f = front x ms in
-    subst (λ (gs : List (List Mark)). countOf isStretch (joins m gs) + cond (waits m && quiet x) 1 0 ≡ cond (waits m) 1 0 + countOf isStretch gs)
-    (sym (f .groups-are))
-    (ap (λ (k : ℕ). k + cond (waits m && quiet x) 1 0) (count-cond (isStretch (m ∷ x ∷ [])) ((m ∷ x ∷ f .after) ∷ f .others) ((m ∷ []) ∷ (x ∷ f .after) ∷ f .others))
-    ∙ one-more (waits m) (waits x) (not (x .applied) && not (x .sent)) (every quiet (f .after)) (countOf isStretch (f .others)) (f .quiet-after))
-
-leaps-none : leapsOf [] ≡ 0
-unfolding leapsOf
-leaps-none = refl
-
--- One more mark at the end: it opens a leap where it waits, unless it goes on with the last one.
-abbrev lastWaits : List Mark → Bool
-lastWaits [] = false
-lastWaits (m ∷ []) = waits m
-lastWaits (m ∷ x ∷ ms) = lastWaits (x ∷ ms)
-
-last-snoc : (ms : List Mark) (x : Mark) → lastWaits (ms ++ x ∷ []) ≡ waits x
-last-snoc [] x = refl
-last-snoc (m ∷ []) x = refl
-last-snoc (m ∷ y ∷ ms) x = last-snoc (y ∷ ms) x
-
-abbrev opens : List Mark → Mark → ℕ
-opens ms x = cond (waits x) (cond (lastWaits ms && quiet x) 0 1) 0
-
-single : (a : Bool) (l : ℕ) → l + cond (a && false) 1 0 ≡ cond a 1 0 + 0 → l ≡ cond a 1 0
-single true l e = omega arith
-single false l e = omega arith
-
-pair : (a b c : Bool) (one two : ℕ) → two + cond (a && (b && c)) 1 0 ≡ cond a 1 0 + cond b 1 0 → one ≡ cond a 1 0
-    → two ≡ one + cond b (cond (a && (b && c)) 0 1) 0
-pair true true true one two e f = omega arith
-pair true true false one two e f = omega arith
-pair true false c one two e f = omega arith
-pair false true c one two e f = omega arith
-pair false false c one two e f = omega arith
-
-leaps-one : (x : Mark) → leapsOf (x ∷ []) ≡ cond (waits x) 1 0
-leaps-one x = single (waits x) (leapsOf (x ∷ [])) (leaps-cons x [] ∙ ap (λ (k : ℕ). cond (waits x) 1 0 + k) leaps-none)
-
-leaps-snoc : (ms : List Mark) (x : Mark) → leapsOf (ms ++ x ∷ []) ≡ leapsOf ms + opens ms x
-leaps-snoc [] x = let p = leaps-one x in let q = leaps-none in omega arith
-leaps-snoc (m ∷ []) x =
-    pair (waits m) (waits x) (not (x .applied) && not (x .sent)) (leapsOf (m ∷ [])) (leapsOf (m ∷ x ∷ []))
-    (leaps-cons m (x ∷ []) ∙ ap (λ (k : ℕ). cond (waits m) 1 0 + k) (leaps-one x))
-    (leaps-one m)
-leaps-snoc (m ∷ y ∷ ms) x =
-    let p = leaps-cons m (y ∷ (ms ++ x ∷ [])) in
-    let q = leaps-cons m (y ∷ ms) in
-    let r = leaps-snoc (y ∷ ms) x in
-    omega arith
-
-count-snoc : (test : Mark → Bool) (ms : List Mark) (x : Mark) → countOf test (ms ++ x ∷ []) ≡ countOf test ms + cond (test x) 1 0
-count-snoc test [] x = omega arith
-count-snoc test (m ∷ ms) x = let h = count-snoc test ms x in omega arith
 
 -- the counts of a state are those of the marks so far
 pub record Counted (ms : List Mark) (s : State) : Type 0 where
