@@ -1,0 +1,155 @@
+// The two runs over one boundary: the single one passes each waiting cycle as a boundary of its own, the leaping one passes
+// the rest of a wait at once, as far as nothing happens in it.
+use boundary::Progress;
+use boundary::State;
+use boundary::Stop;
+use machine::Machine;
+use serial::Serial;
+use timer::Timer;
+ghost use mathlib.Core.Path.{_≡_};
+ghost use mathlib.Core.Bool.{true, _&&_, _||_};
+ghost use mathlib.Core.List.{List};
+ghost use lib.Dec.{leb};
+ghost use Prim.Native.Nat.{ℕ, _+_, _≤_, _<_};
+ghost use Rattle.session.specs.Session.{dueAt};
+ghost use Rattle.serial.specs.Serial.{wantsToSend, ticksSerial};
+ghost use Rattle.timer.specs.Timer.{ticks};
+ghost use Rattle.machine.specs.Machine.{passedOf};
+ghost use Rattle.machine.specs.Interrupts.{pendingOf};
+ghost use Rattle.boundary.specs.Boundary.{worldOf, endedOf, runOf};
+ghost use Rattle.boundary.specs.Counts.{Fine};
+ghost use Rattle.run.specs.Leaps.{isDue, endsLeap, First};
+
+// How a run ended.
+pub struct Outcome {
+    pub stop: Stop,
+    pub state: State,
+}
+
+fn least(a: u32, b: u32) -> u32
+    ensures { λ r. ⌜ First a r (λ j. leb b j) ⌝ }
+{
+    if a <= b { a } else { b }
+}
+
+// Cycles until a record is due, at most `most`.
+fn record_room(most: u32, session: &[u8], count: u32, at: usize) -> u32
+    ensures { λ r. ⌜ First most r (λ j. dueAt (now (session .entry)) (count + j) at) ⌝ }
+{
+    if session.len() <= at {
+        return most;
+    }
+    let time = session::time_at(session, at);
+    if time <= count {
+        return 0;
+    }
+    least(most, time - count)
+}
+
+// Cycles until a byte is to be sent, at most `most`.
+fn send_room(most: u32, s: Serial) -> u32
+    ensures { λ r. ⌜ First most r (λ j. wantsToSend (ticksSerial j s)) ⌝ }
+{
+    if s.te & !s.tdre.set {
+        return least(most, s.busy as u32);
+    }
+    most
+}
+
+// Cycles until an enabled flag is set that comes after d cycles, at most `most`.
+fn flag_room(most: u32, set: bool, on: bool, d: u32) -> u32
+    ensures { λ r. ⌜ First most r (λ j. (set || leb d j) && on) ⌝ }
+{
+    if !on {
+        return most;
+    }
+    if set {
+        return 0;
+    }
+    least(most, d)
+}
+
+// Cycles until OCF or TOF would cause an interrupt with I clear, at most `most`.
+fn timer_room(most: u32, t: Timer) -> u32
+    ensures { λ r. ⌜ First most r (λ j. (ticks j t .ocf .set && t .eoci) || (ticks j t .tof .set && t .etoi)) ⌝ }
+{
+    let k = flag_room(most, t.ocf.set, t.eoci, t.until_compare());
+    flag_room(k, t.tof.set, t.etoi, t.until_overflow())
+}
+
+// Cycles until an interrupt is accepted, at most `most`.
+fn interrupt_room(most: u32, m: Machine) -> u32
+    ensures { λ r. ⌜ First most r (λ j. isDue (pendingOf (passedOf j m))) ⌝ }
+{
+    if m.nmi {
+        return 0;
+    }
+    if m.chip.cpu.codes.i {
+        return most;
+    }
+    let t = m.chip.bus.timer;
+    if !m.irq1 | (t.icf.set & t.eici) | m.chip.bus.serial.requests() {
+        return 0;
+    }
+    timer_room(most, t)
+}
+
+// After a waiting cycle, the rest of its leap at once: the run goes on the same, from where the leap ends.
+fn leap(session: &[u8], n: u32, s: State) -> State
+    requires { ⌜ Fine s × (n ≤ 1000000000) ⌝ }
+    ensures { λ r. ⌜ Fine r × (s .cycles .0 ≤ r .cycles .0) × ((s .inside && s .machine .chip .cpu .waiting) ≡ true → endsLeap (now (session .entry)) n r ≡ true) × ((i o : List ℕ) → runOf (now (session .entry)) n (worldOf s i o) ≡ runOf (now (session .entry)) n (worldOf r i o)) ⌝ }
+{
+    if !(s.inside & s.machine.chip.cpu.waiting) {
+        return s;
+    }
+    if n <= s.cycles.0 {
+        return s;
+    }
+    let m = s.machine;
+    let a = record_room(n - s.cycles.0, session, s.cycles.0, s.place);
+    let b = send_room(a, m.chip.bus.serial);
+    let k = interrupt_room(b, m);
+    s.moved(m.pass(k), k, 0, 0, 0, true)
+}
+
+// What either run does between two boundaries.
+fn pace(leaping: bool, session: &[u8], n: u32, s: State) -> State
+    requires { ⌜ Fine s × (n ≤ 1000000000) ⌝ }
+    ensures { λ r. ⌜ Fine r × (s .cycles .0 ≤ r .cycles .0) × ((i o : List ℕ) → runOf (now (session .entry)) n (worldOf s i o) ≡ runOf (now (session .entry)) n (worldOf r i o)) ⌝ }
+{
+    if leaping {
+        return leap(session, n, s);
+    }
+    s
+}
+
+// A run, leaping or single: boundaries until one stops it.
+pub fn run(
+    leaping: bool,
+    session: &[u8],
+    n: u32,
+    image: &mut [u8],
+    output: &mut [u8],
+    start: State,
+) -> Outcome
+    requires { ⌜ Fine start × (n ≤ 1000000000) ⌝ }
+    ensures { λ r. ⌜ endedOf (r .stop) (worldOf (r .state) (now (image .exit)) (now (output .exit))) ≡ runOf (now (session .entry)) n (worldOf start (now (image .entry)) (now (output .entry))) ⌝ }
+{
+    let mut s = start;
+    loop {
+        let t = s.boundary(session, n, image, output);
+        let next = t.state;
+        let progress = t.progress;
+        match progress {
+            Progress::Going => {
+                s = pace(leaping, session, n, next);
+            }
+            Progress::Stopped(stop) => {
+                return Outcome {
+                    stop: stop,
+                    state: next,
+                };
+            }
+        }
+    }
+}
