@@ -7,6 +7,7 @@ use machine::Machine;
 use machine::Moved;
 use machine::Power;
 use registers::Cpu;
+ghost use Prim.Native.Nat.{_<_};
 
 // What the image holds wherever no case has a cell.
 const BACKGROUND: u8 = 0xA5;
@@ -38,6 +39,13 @@ enum Difference {
     Beside,
 }
 
+// An address that was accessed, and what it holds before the instruction and after it.
+struct Cell {
+    at: u16,
+    before: u8,
+    after: u8,
+}
+
 struct Tally {
     cases: u64,
     differing: u64,
@@ -62,48 +70,52 @@ fn put(image: &mut [u8], at: u16, v: u8) {
     }
 }
 
-fn cell(k: u16) -> u16
-    requires { ⌜ k < 256 ⌝ }
+// The case's k-th cell.
+fn cell_at(case: &[u8], k: u8) -> Cell {
+    let i = FIRST_CELL + 4 * (k as u16);
+    Cell {
+        at: word(case, i),
+        before: peek(case, i + 2),
+        after: peek(case, i + 3),
+    }
+}
+
+fn size(case: &[u8]) -> usize
+    ensures { λ r. ⌜ 0 < r ⌝ }
 {
-    FIRST_CELL + 4 * k
+    (FIRST_CELL + 4 * (peek(case, CELLS) as u16)) as usize
 }
 
 // The cells as they are before the instruction.
 fn place(case: &[u8], image: &mut [u8]) {
-    let n = peek(case, CELLS) as u16;
+    let n = peek(case, CELLS);
     for k in 0..n {
-        let at = cell(k);
-        put(image, word(case, at), peek(case, at + 2));
+        let c = cell_at(case, k);
+        put(image, c.at, c.before);
     }
 }
 
-fn clear(case: &[u8], image: &mut [u8]) {
-    let n = peek(case, CELLS) as u16;
-    for k in 0..n {
-        put(image, word(case, cell(k)), BACKGROUND);
-    }
-}
-
-// Whether a cell is not as it was seen after the instruction.
-fn cells_differ(case: &[u8], image: &[u8]) -> bool {
-    let n = peek(case, CELLS) as u16;
+// Whether a cell is not as it was seen after the instruction. All become background.
+fn take_cells(case: &[u8], image: &mut [u8]) -> bool {
+    let n = peek(case, CELLS);
     let mut differ = false;
     for k in 0..n {
-        let at = cell(k);
-        differ = differ | (peek(image, word(case, at)) != peek(case, at + 3));
+        let c = cell_at(case, k);
+        differ = differ | (peek(image, c.at) != c.after);
+        put(image, c.at, BACKGROUND);
     }
     differ
 }
 
-// Whether a byte before or after a cell is not the background, with the cells cleared.
+// Whether a byte before or after a cell is not background, once all cells are.
 fn beside_differs(case: &[u8], image: &[u8]) -> bool {
-    let n = peek(case, CELLS) as u16;
+    let n = peek(case, CELLS);
     let mut differ = false;
     for k in 0..n {
-        let at = word(case, cell(k));
-        let below = peek(image, bits::minus(at, 1));
-        let above = peek(image, bits::plus(at, 1));
-        differ = differ | (below != BACKGROUND) | (above != BACKGROUND);
+        let at = cell_at(case, k).at;
+        differ = differ
+            | (peek(image, bits::minus(at, 1)) != BACKGROUND)
+            | (peek(image, bits::plus(at, 1)) != BACKGROUND);
     }
     differ
 }
@@ -168,9 +180,7 @@ fn compare_time(moved: Moved, case: &[u8]) -> Difference {
 fn replay(machine: Machine, case: &[u8], image: &mut [u8]) -> Difference {
     place(case, image);
     let moved = start(machine, case).step(image);
-    let cells = cells_differ(case, image);
-    clear(case, image);
-    if cells {
+    if take_cells(case, image) {
         return Difference::Cell;
     }
     if beside_differs(case, image) {
@@ -231,12 +241,12 @@ fn replay_all(machine: Machine, file: &[u8], image: &mut [u8]) -> Tally {
     let mut at = 0;
     while at < file.len() {
         let case = &file[at..];
-        let size = cell(peek(case, CELLS) as u16) as usize;
-        if case.len() < size {
+        let n = size(case);
+        if case.len() < n {
             return tally;
         }
         tally = tally.with(replay(machine, case, image));
-        at += size;
+        at += n;
     }
     tally
 }
@@ -268,6 +278,7 @@ fn name(difference: Difference) {
 }
 
 fn report(tally: Tally) {
+    let difference = tally.difference;
     io::write_all(1, b"cases ");
     io::print_decimal(1, tally.cases);
     io::write_all(1, b" differ ");
@@ -277,7 +288,7 @@ fn report(tally: Tally) {
         io::write_all(1, b"first ");
         io::print_decimal(1, tally.first);
         io::write_all(1, b" in ");
-        name(tally.difference);
+        name(difference);
         io::write_all(1, b"\n");
     }
 }
