@@ -239,11 +239,17 @@ impl Machine {
         }
     }
 
+    fn entry_cycles(self) -> u8
+        ensures { λ r. ⌜ r ≡ entryCycles self ⌝ }
+    {
+        if self.chip.cpu.waiting { 4 } else { 12 }
+    }
+
     // An interrupt is entered, and its cycles pass.
     pub fn enter(self, cause: Cause, image: &mut [u8]) -> Moved
         ensures { λ r. ⌜ moved r (now (image .exit)) ≡ enteredOf cause (now (image .entry)) self ⌝ }
     {
-        let k = if self.chip.cpu.waiting { 4u8 } else { 12u8 };
+        let k = self.entry_cycles();
         let chip = self.chip
             .enter(tables::address_of(vector_for(cause)), image);
         let m = Machine {
