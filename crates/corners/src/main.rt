@@ -15,7 +15,7 @@ ghost use Prim.Native.Nat.{_<_, _≤_};
 ghost use lib.ListN.{length};
 
 // A row's columns: its name, R, the number of instructions, the code; and where the code goes.
-const NAME: usize = 24;
+const NAME: isize = 24;
 
 const R: u16 = 24;
 
@@ -149,10 +149,9 @@ fn start_of(row: &[u8]) -> u32 {
     digit(peek(row, R)) as u32 * 65536 + low as u32
 }
 
-fn put(image: &mut [u8], at: u16, v: u8) {
-    let i = at as usize;
-    if i < image.len() {
-        image[i] = v;
+fn put(image: &mut [u8], at: usize, v: u8) {
+    if at < image.len() {
+        image[at] = v;
     }
 }
 
@@ -160,7 +159,7 @@ fn load(row: &[u8], image: &mut [u8]) {
     for k in 0..LONGEST {
         let column = CODE + 3 * k;
         if (column as usize) < row.len() {
-            put(image, ORIGIN + k, byte_at(row, column));
+            put(image, (ORIGIN + k) as usize, byte_at(row, column));
         }
     }
 }
@@ -269,15 +268,14 @@ fn show_image(image: &mut [u8]) {
     for at in 0..image.len() {
         if image[at] != pattern(at) {
             show_cell(at, image[at]);
-            image[at] = pattern(at);
+            put(image, at, pattern(at));
         }
     }
 }
 
 fn show_name(row: &[u8]) {
-    if NAME <= row.len() {
-        io::write_all(1, &row[..NAME]);
-    }
+    let n = io::count(NAME, row);
+    io::write_all(1, &row[..n]);
 }
 
 // A row's answer.
@@ -312,10 +310,9 @@ fn line_length(text: &[u8]) -> usize
 fn answer_all(text: &[u8], image: &mut [u8]) {
     let mut at = 0;
     while at < text.len() {
-        let rest = &text[at..];
-        let n = line_length(rest);
-        answer(&rest[..n], image);
-        at += n;
+        let end = at + line_length(&text[at..]);
+        answer(&text[at..end], image);
+        at = end;
     }
 }
 
