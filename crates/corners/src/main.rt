@@ -178,7 +178,7 @@ fn run(machine: Machine, steps: u8, image: &mut [u8]) -> Ran {
     }
 }
 
-// What changed.
+// What changed: its name and what it is now.
 fn show(name: &[u8], before: u16, after: u16, digits: usize) {
     if before != after {
         io::write_all(1, b" ");

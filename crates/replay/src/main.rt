@@ -54,7 +54,7 @@ struct Tally {
 }
 
 // The emulator leaves the top two bits of the codes as they came after TAP and RTI, where 01 forces them to 1.
-// Its other differences do not show: it does not read before CLR on memory.
+// Its one other difference does not show: it does not read before CLR on memory.
 fn codes_seen(codes: u8) -> u8 {
     codes | 0xC0
 }
