@@ -77,7 +77,7 @@ fn start(m: Machine) -> State
 }
 
 // The reply of the session's check.
-fn admission(c: Checked) -> Admission
+fn verdict(c: Checked) -> Admission
     ensures { λ r. ⌜ toldAdmission r ≡ toldCheck c ⌝ }
 {
     match c {
@@ -102,7 +102,7 @@ fn admit(image: &[u8], m: Machine, session: &[u8], n: u32) -> Admission
     if n > 1000000000 {
         return Admission::Refused(Reply::WrongLimit);
     }
-    admission(session::check(session))
+    verdict(session::check(session))
 }
 
 // The reply of a run that stopped.
