@@ -2,7 +2,7 @@
 use Prim.Native.Nat.{ℕ, _≤_, _<_}
 use native.Mathlib.Omega.{arith}
 use mathlib.Core.Path.{_≡_, refl, sym, ap, subst, _∙_}
-use mathlib.Core.Bool.{Bool, true, false, cond, not}
+use mathlib.Core.Bool.{Bool, true, false, not}
 use mathlib.Core.List.{List}
 use mathlib.Core.Option.{Option, none, some}
 use lib.Dec.{eqb, ltb}
@@ -137,3 +137,8 @@ module _ (image : List ℕ) (m : Machine) (session : List ℕ) (n : ℕ) where
         by a (Kind k) e = t a (Kind k) e tt
         by a (Value k) e = t a (Value k) e tt
         by a (Time k) e = t a (Time k) e tt
+
+    -- what holds of the start and of where a run stops holds of what is left, whatever the reply
+    pub left-cases : (P : World → Type 0) → P (startWorld m image output) → (checkOf session ≡ Sound → P (ranOf session n m image output .world))
+        → P (endOf image m session n output .world)
+    left-cases P s r = end-cases (λ x. P (x .world)) (λ l. s) (λ l f. s) (λ l f h. s) (λ a c e f. s) (λ a e. r e)

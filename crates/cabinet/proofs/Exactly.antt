@@ -5,10 +5,9 @@ use mathlib.Core.Path.{_≡_, refl, sym, ap, subst, _∙_}
 use mathlib.Core.Bool.{Bool, true, false, true≢false}
 use mathlib.Core.List.{List, [], _∷_}
 use mathlib.Core.Logic.{_↔_}
-use mathlib.Core.Option.{Option, none, some, Option·getD}
+use mathlib.Core.Option.{none, some, Option·getD}
 use lib.ListN.{length, getD}
-use Rattle.bus.specs.Units.{busRanges}
-use Rattle.session.specs.Session.{numberOf, recordOf, checkOf}
+use Rattle.session.specs.Session.{numberOf, checkOf}
 use Rattle.session.specs.declared.Checked.{Checked}
 use Rattle.session.specs.declared.Checked.the-variants.{Sound, Length, Kind, Value, Time}
 use Rattle.session.proofs.Laws.{Refusal}
@@ -18,10 +17,10 @@ use Rattle.machine.specs.Machine.{Ranges, rangesOf}
 use Rattle.machine.proofs.Ranges.{ranges-say, say-ranges}
 use Rattle.boundary.specs.declared.Stop.{Stop}
 use Rattle.boundary.specs.declared.Stop.the-variants.{Limit, Undefined, Full}
-use Rattle.boundary.specs.Boundary.{Ended, stopNumber}
+use Rattle.boundary.specs.Boundary.{stopNumber}
 use Rattle.boundary.specs.Start.{startWorld, ranOf}
 use Rattle.cabinet.specs.Replies.{Told, told, toldCheck, toldStop}
-use Rattle.cabinet.specs.Answers.{End, endAt, endOf, Answer, answerAt, answerOf}
+use Rattle.cabinet.specs.Answers.{End, endAt, endOf, answerAt, answerOf}
 use Rattle.cabinet.proofs.Known.{known}
 use Rattle.cabinet.proofs.Ends.{toldRefusal, Passed, refuses-1, refuses-2, refuses-3, session-decides, end-refused, end-ran, end-cases}
 use Rattle.cabinet.proofs.Stops.{Shows, shown-once, stop-shows}
@@ -94,7 +93,7 @@ module _ (image : List ℕ) (m : Machine) (session : List ℕ) (n : ℕ) (output
   abbrev Passes : Type 0
   Passes = Passed image m session n
 
-  -- what a refused run and a run tell
+  -- the reply of a refused run
   refused-reply : {t : Told} → endOf image m session n output ≡ endAt t (startWorld m image output) → Replies t
   refused-reply e = ap (λ (x : End). x .reply) e
 

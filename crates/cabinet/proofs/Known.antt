@@ -2,8 +2,8 @@
 use Prim.Native.Nat.{ℕ}
 use mathlib.Core.Path.{_≡_, refl, sym, ap, _∙_}
 use mathlib.Core.Bool.{cond}
-use mathlib.Core.List.{List, [], _∷_}
-use mathlib.Core.Option.{Option, none, some, Option·getD}
+use mathlib.Core.List.{[], _∷_}
+use mathlib.Core.Option.{Option·getD}
 use lib.Dec.{eqb}
 use lib.ListN.{getD}
 use Rattle.opcodes.specs.declared.Instruction.{Instruction}
@@ -14,7 +14,7 @@ use Rattle.machine.specs.declared.Power.{Power}
 use Rattle.machine.specs.declared.Power.the-variants as power
 use Rattle.cabinet.specs.declared.Reply.{Reply}
 use Rattle.cabinet.specs.declared.Reply.the-variants.{Limit, WrongImage, WrongMachine, WrongLimit, Length, Kind, Value, Time, Undefined, Full}
-use Rattle.cabinet.specs.Replies.{Told, told, toldReply, Given, gives, replies, toldPower, toldDecoded}
+use Rattle.cabinet.specs.Replies.{Told, toldReply, Given, gives, replies, toldPower, toldDecoded}
 
 -- an answer that can be read back from what it tells is known by that
 pub known : {A B : Type 0} (tell : A → B) (back : B → A) → ((a : A) → back (tell a) ≡ a) → (a b : A) → tell a ≡ tell b → a ≡ b

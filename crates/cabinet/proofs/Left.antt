@@ -2,14 +2,12 @@
 -- after the sent ones, the lengths, the machine's ranges and the bounds of the counts. Assumes nothing.
 use Prim.Native.Nat.{ℕ, _+_, _≤_}
 use native.Mathlib.Omega.{arith}
-use mathlib.Core.Path.{_≡_, refl, ap, subst, sym, _∙_}
-use mathlib.Core.Bool.{true}
+use mathlib.Core.Path.{_≡_, refl, subst, sym}
 use mathlib.Core.List.{List, _++_}
 use lib.ListN.{length, take, drop}
 use lib.Seq.{take-all, length-take-le}
-use Rattle.session.specs.declared.Checked.the-variants.{Sound}
 use Rattle.machine.specs.declared.Machine.{Machine}
-use Rattle.machine.specs.Machine.{Ranges, rangesOf}
+use Rattle.machine.specs.Machine.{Ranges}
 use Rattle.machine.proofs.Ranges.{ranges-say, say-ranges}
 use Rattle.boundary.specs.Boundary.{World}
 use Rattle.boundary.specs.Start.{startWorld, ranOf}
@@ -18,10 +16,10 @@ use Rattle.boundary.proofs.LeapBound.{leap-bound}
 use Rattle.boundary.proofs.Output.{filled-part}
 use Rattle.boundary.proofs.Kept.{image-length, cycles-bound}
 use Rattle.boundary.proofs.InRanges.{run-ranges}
-use Rattle.boundary.proofs.Trace.{Counted, counts-told}
+use Rattle.boundary.proofs.Trace.{counts-told}
 use Rattle.cabinet.specs.Replies.{Told}
-use Rattle.cabinet.specs.Answers.{End, endOf, Answer, answerAt, answerOf, leapsOf}
-use Rattle.cabinet.proofs.Ends.{Passed, end-cases}
+use Rattle.cabinet.specs.Answers.{End, Answer, answerAt, answerOf, leapsOf}
+use Rattle.cabinet.proofs.Ends.{end-cases, left-cases}
 use Rattle.cabinet.proofs.Exactly.{stop-number, Admitted, admitted-end}
 
 module _ (image : List ℕ) (m : Machine) (session : List ℕ) (n : ℕ) (output : List ℕ) where
@@ -45,12 +43,9 @@ module _ (image : List ℕ) (m : Machine) (session : List ℕ) (n : ℕ) (output
   -- "leaps ≤ records used + bytes sent + interrupts entered + 1"
   pub leaps-bound : let a = answerOf image m session n output in leapsOf image m session n output ≤ a .used + a .sent + a .entries + 1
   leaps-bound =
-      end-cases image m session n output (λ x. let s = x .world .state in s .leaps .0 ≤ s .used .0 + s .sent .0 + s .entries .0 + 1)
-      (λ l. omega arith)
-      (λ l r. omega arith)
-      (λ l r h. omega arith)
-      (λ a c f r. omega arith)
-      (λ a f. leap-bound session n m image output)
+      left-cases image m session n output (λ w. let s = w .state in s .leaps .0 ≤ s .used .0 + s .sent .0 + s .entries .0 + 1)
+      (omega arith)
+      (λ f. leap-bound session n m image output)
 
   -- the sent bytes are within the output, which keeps its length, and the bytes after them are unchanged
   pub output-left : let a = answerOf image m session n output in
@@ -59,42 +54,27 @@ module _ (image : List ℕ) (m : Machine) (session : List ℕ) (n : ℕ) (output
       × (length (take (a .sent) (a .output)) ≡ a .sent)
       × (a .output ≡ take (a .sent) (a .output) ++ drop (a .sent) output)
   output-left =
-      end-cases image m session n output
-      (λ x. let k = x .world .state .sent .0 in let o = x .world .output in (k ≤ length output) × (length o ≡ length output) × (length (take k o) ≡ k) × (o ≡ take k o ++ drop k output))
-      (λ l. (omega arith, refl, refl, refl))
-      (λ l r. (omega arith, refl, refl, refl))
-      (λ l r h. (omega arith, refl, refl, refl))
-      (λ a c f r. (omega arith, refl, refl, refl))
-      (λ a f. filled-part session n m image output)
+      left-cases image m session n output
+      (λ w. let k = w .state .sent .0 in let o = w .output in (k ≤ length output) × (length o ≡ length output) × (length (take k o) ≡ k) × (o ≡ take k o ++ drop k output))
+      (omega arith, refl, refl, refl)
+      (λ f. filled-part session n m image output)
 
   pub image-left : length (answerOf image m session n output .image) ≡ length image
   image-left =
-      end-cases image m session n output (λ x. length (x .world .image) ≡ length image)
-      (λ l. refl)
-      (λ l r. refl)
-      (λ l r h. refl)
-      (λ a c f r. refl)
-      (λ a f. image-length session n (startWorld m image output))
+      left-cases image m session n output (λ w. length (w .image) ≡ length image) refl
+      (λ f. image-length session n (startWorld m image output))
 
-  -- the machine that a run returns is in its ranges, unless it was refused for them
+  -- the machine that a run returns is in its ranges where the machine that it got is
   pub machine-left : Ranges (m .chip .bus) → Ranges (answerOf image m session n output .machine .chip .bus)
   machine-left r =
-      end-cases image m session n output (λ x. Ranges (x .world .state .machine .chip .bus))
-      (λ l. r)
-      (λ l f. r)
-      (λ l f h. r)
-      (λ a c f g. r)
-      (λ a f. ranges-say _ (run-ranges session n m image output f (say-ranges (m .chip .bus) r)))
+      left-cases image m session n output (λ w. Ranges (w .state .machine .chip .bus)) r
+      (λ f. ranges-say _ (run-ranges session n m image output f (say-ranges (m .chip .bus) r)))
 
   -- no instruction and no entry takes more than 12 cycles
   pub cycles-left : answerOf image m session n output .cycles ≤ n + 11
   cycles-left =
-      end-cases image m session n output (λ x. x .world .state .cycles .0 ≤ n + 11)
-      (λ l. omega arith)
-      (λ l r. omega arith)
-      (λ l r h. omega arith)
-      (λ a c f r. omega arith)
-      (λ a f. cycles-bound session n m image output)
+      left-cases image m session n output (λ w. w .state .cycles .0 ≤ n + 11) (omega arith)
+      (λ f. cycles-bound session n m image output)
 
   -- the counts are those of the run's boundaries: leaps are 01's longest stretches of waiting cycles
   pub counts-left : Admitted image m session n output

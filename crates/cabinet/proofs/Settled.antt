@@ -9,7 +9,7 @@ use Rattle.machine.specs.declared.Machine.{Machine}
 use Rattle.machine.specs.declared.Power.{Power}
 use Rattle.cabinet.specs.declared.Ran.{Ran}
 use Rattle.cabinet.specs.declared.Leapt.{Leapt}
-use Rattle.cabinet.specs.Replies.{toldReply, toldPower, toldDecoded}
+use Rattle.cabinet.specs.Replies.{toldPower, toldDecoded}
 use Rattle.cabinet.specs.Answers.{Answer, answered, answerOf, leapsOf, powerAnswer, opcodeAnswer}
 use Rattle.cabinet.proofs.Known.{reply-known, power-known, decoded-known}
 

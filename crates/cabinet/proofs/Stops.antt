@@ -2,13 +2,13 @@
 -- them. Assumes nothing.
 use Prim.Native.Nat.{ℕ, _≤_, _<_}
 use native.Mathlib.Omega.{arith}
-use mathlib.Core.Path.{_≡_, refl, sym, subst, _∙_}
-use mathlib.Core.Bool.{Bool, true, false, true≢false, cond, not, _&&_}
+use mathlib.Core.Path.{_≡_, refl, sym, _∙_}
+use mathlib.Core.Bool.{Bool, true, false, true≢false, not, _&&_}
 use mathlib.Core.List.{List}
 use lib.Dec.{leb, eqb}
 use lib.ListN.{length}
 use borrow.Author.Tests.{leb-true, leb-false, eqb-true}
-use Rattle.turns.specs.Turn.{Turn, more, done}
+use Rattle.turns.specs.Turn.{Turn}
 use Rattle.opcodes.specs.declared.Decoded.the-variants as decoded
 use Rattle.opcodes.specs.Opcodes.{decodeOf}
 use Rattle.opcodes.proofs.Bounds.{bounds}

@@ -1,7 +1,6 @@
 use borrow.Author.Needs.{needs}
 use mathlib.Core.Path.{sym, ap, _∙_}
 use borrow.Author.Tests.{not-true, not-false}
-use Rattle.session.specs.declared.Checked.{Checked}
 use Rattle.cabinet.specs.Replies.{toldCheck}
 use Rattle.cabinet.proofs.Ends.{refuses-1, refuses-2, refuses-3, session-decides}
 use Rattle.cabinet.proofs.admit.Statement.{statement}
