@@ -7,7 +7,7 @@ use machine::Machine;
 use machine::Moved;
 use machine::Power;
 use registers::Cpu;
-ghost use Prim.Native.Nat.{_<_};
+ghost use Prim.Native.Nat.{_≤_};
 
 // What the image holds wherever no case has a cell.
 const BACKGROUND: u8 = 0xA5;
@@ -22,6 +22,11 @@ const WAITS: u16 = 19;
 const CELLS: u16 = 20;
 
 const FIRST_CELL: u16 = 21;
+
+// How long a case is without its cells, and with ten.
+const HEAD: usize = 21;
+
+const LONGEST: usize = 61;
 
 // What is not as it was seen. `Beside` is the byte before or after a cell.
 enum Difference {
@@ -78,12 +83,6 @@ fn cell_at(case: &[u8], k: u8) -> Cell {
         before: peek(case, i + 2),
         after: peek(case, i + 3),
     }
-}
-
-fn size(case: &[u8]) -> usize
-    ensures { λ r. ⌜ 0 < r ⌝ }
-{
-    (FIRST_CELL + 4 * (peek(case, CELLS) as u16)) as usize
 }
 
 // The cells as they are before the instruction.
@@ -229,8 +228,23 @@ impl Tally {
     }
 }
 
-// Every whole case of the file, on the same machine and image.
-fn replay_all(machine: Machine, file: &[u8], image: &mut [u8]) -> Tally {
+// Fills a part of the case, if the input has so much.
+fn read_part(case: &mut [u8], start: usize, end: usize) -> bool
+    requires { ⌜ start ≤ end ⌝ }
+{
+    if case.len() < end {
+        return false;
+    }
+    io::read_full(0, &mut case[start..end]) == end - start
+}
+
+// The next case, if the input has another whole one.
+fn read_case(case: &mut [u8]) -> bool {
+    read_part(case, 0, HEAD) && read_part(case, HEAD, HEAD + 4 * (peek(case, CELLS) as usize))
+}
+
+// Every case, on the same machine and image. A proved loop has to end, and nothing says that the input does.
+fn replay_all(machine: Machine, image: &mut [u8]) -> Tally {
     let none = Difference::Nothing;
     let mut tally = Tally {
         cases: 0,
@@ -238,15 +252,11 @@ fn replay_all(machine: Machine, file: &[u8], image: &mut [u8]) -> Tally {
         first: 0,
         difference: none,
     };
-    let mut at = 0;
-    while at < file.len() {
-        let case = &file[at..];
-        let n = size(case);
-        if case.len() < n {
-            return tally;
-        }
-        tally = tally.with(replay(machine, case, image));
-        at += n;
+    let mut case = [0u8; LONGEST];
+    let mut turns = u32::MAX;
+    while turns > 0 && read_case(&mut case) {
+        tally = tally.with(replay(machine, &case, image));
+        turns -= 1;
     }
     tally
 }
@@ -294,13 +304,11 @@ fn report(tally: Tally) {
 }
 
 fn main() {
-    let mut file = [0u8; 524288];
-    let n = io::read_full(0, &mut file);
     let mut image = [BACKGROUND; 65536];
     let Power::On(machine) = machine::power_on(&image, 65536) else {
         return;
     };
-    report(replay_all(machine, &file[..n], &mut image));
+    report(replay_all(machine, &mut image));
     if !is_background(&image) {
         io::write_all(1, b"a byte changed that is no cell\n");
     }
