@@ -1,0 +1,7 @@
+pub mod Known
+pub mod Ends
+pub mod Stops
+pub mod Exactly
+pub mod Given
+pub mod Left
+pub mod Settled
