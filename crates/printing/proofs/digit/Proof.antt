@@ -1,4 +1,6 @@
+-- `printing::digit` meets its contract: the same test. Assumes nothing.
 use borrow.Author.Needs.{needs}
+use borrow.Author.Tests.{lt-ltb, le-ltb}
 use Rattle.printing.proofs.digit.Statement.{statement}
 use Rattle.printing.proofs.digit.Tie as tie
 
@@ -8,5 +10,5 @@ digit-spec =
     (tie.spec
     (λ c. search needs)  -- add-result
     (λ c. search needs)  -- add-result-2
-    (λ c. ?)  -- returns
-    (λ c. ?))  -- returns-2
+    (λ c. rw (lt-ltb _ _ (c .if1 .taken)))  -- returns
+    (λ c. rw (le-ltb _ _ (c .if1 .left))))  -- returns-2

@@ -1,42 +1,18 @@
+-- `Line::text` meets its contract: each turn puts one byte more. Assumes nothing.
+use Prim.Native.Nat.{_-_, _+_, _≤_}
+use native.Mathlib.Omega.{arith}
+use mathlib.Core.Path.{_≡_, refl, sym, ap, _∙_}
+use lib.ListN.{length, drop}
+use Rattle.printing.specs.Printing.{putsOf}
+use Rattle.printing.proofs.Laws.{puts-more, puts-all}
 use Rattle.printing.proofs.Line.text.Statement.{statement}
 use Rattle.printing.proofs.Line.text.Tie as tie
-use Rattle.printing.proofs.Line.text.Reads as reads
-use Rattle.printing.proofs.Line.text.Lts as lts
-use Rattle.printing.proofs.Line.put.Reads as put-reads
 
 abbrev Inv-loop : tie.InvT-loop
-Inv-loop text line₀ i₀ line i = ?
+Inv-loop text line₀ i₀ line i = (i ≤ length text) × (putsOf line₀ text ≡ putsOf line (drop i text))
 
 abbrev μ-loop : tie.MeasureT-loop
-μ-loop text line₀ i₀ line i = ?
-
--- src/lib.rt:45:9
-loop-holds : tie.Need-loop-holds Inv-loop μ-loop
-loop-holds c = ?
-
--- src/lib.rt:46:29
-shared-slice-read-put : tie.Need-shared-slice-read-put Inv-loop μ-loop
-shared-slice-read-put c = ?
-
--- src/lib.rt:46:13
-put-requires : tie.Need-put-requires Inv-loop μ-loop
-put-requires c κs = ?
-
--- src/lib.rt:47:17
-add-i : tie.Need-add-i Inv-loop μ-loop
-add-i c = ?
-
--- src/lib.rt:45:9
-loop-less : tie.Need-loop-less Inv-loop μ-loop
-loop-less c = ?
-
--- src/lib.rt:45:9
-loop-again : tie.Need-loop-again Inv-loop μ-loop
-loop-again c = ?
-
--- src/lib.rt:40:5
-returns : tie.Need-returns Inv-loop μ-loop
-returns c = ?
+μ-loop text line₀ i₀ line i = length text - i
 
 pub text-spec : {M : Type 1} → statement M
 text-spec =
@@ -44,10 +20,10 @@ text-spec =
     (tie.spec
     Inv-loop
     μ-loop
-    loop-holds
-    shared-slice-read-put
-    put-requires
-    add-i
-    loop-less
-    loop-again
-    returns)
+    (λ c. (omega arith, refl))  -- loop-holds
+    (λ c. c .before .loop-test .taken)  -- shared-slice-read-put
+    (λ c κs. tt)  -- put-requires
+    (λ c. omega (arith, c .before .before .loop-test .taken))  -- add-i
+    (λ c. omega (arith, c .before .before .loop-test .taken))  -- loop-less
+    (λ c. (omega (arith, c .before .before .loop-test .taken), c .before .before .before .loop .inv .1 ∙ puts-more _ _ _ (c .before .before .loop-test .taken) ∙ ap (λ l. putsOf l (drop (c .before .before .before .loop .i + 1) (c .before .before .before .before .before .args .text .now))) (sym (c .put .ensures))))  -- loop-again
+    (λ c. sym (c .before .loop .inv .1 ∙ puts-all _ _ _ (c .loop-test .left))))  -- returns
