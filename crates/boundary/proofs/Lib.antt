@@ -2,3 +2,12 @@ pub mod Picks
 pub mod Feeding
 pub mod Cases
 pub mod Runs
+pub mod Keeps
+pub mod LeapBound
+pub mod Output
+pub mod Kept
+pub mod ReadOnly
+pub mod InRanges
+pub mod Stretches
+pub mod Trace
+pub mod Worked

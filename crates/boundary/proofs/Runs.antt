@@ -116,7 +116,7 @@ module _ (session : List ℕ) (n : ℕ) where
       loop-keeps (boundaryOf session n) _ _ run-falls Q R (λ w v h e. then-more Q R e (turn w h)) (λ w r h e. then-done Q R e (turn w h)) w h
 
   -- the counts stay fine
-  abbrev FineThen : Turn World Ended → Type 0
+  abbrev pub FineThen : Turn World Ended → Type 0
   FineThen = Then (λ v. Fine (v .state)) (λ e. Fine (e .world .state))
 
   sent-fine : (s : State) → Fine s → Fine (sentState s)
@@ -133,7 +133,7 @@ module _ (session : List ℕ) (n : ℕ) where
       h
       (λ f z. record { instructions = let y = h .instructions in omega arith; entries = let y = h .entries in omega arith; leaps = let y = h .leaps in omega arith; used = h .used })
 
-  turn-fine : (w : World) → Fine (w .state) → FineThen (boundaryOf session n w)
+  pub turn-fine : (w : World) → Fine (w .state) → FineThen (boundaryOf session n w)
   turn-fine w h =
       let f = records-fine session (w .image) (w .state) h .0 in
       boundary-cases FineThen session n w (λ _. h) (λ _. f) (λ _ _. act-fine _ (sent-fine _ f)) (λ _. act-fine _ f)

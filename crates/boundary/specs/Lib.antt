@@ -1,2 +1,4 @@
 pub mod Boundary
 pub mod Counts
+pub mod Start
+pub mod Trace

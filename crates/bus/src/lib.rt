@@ -10,7 +10,7 @@ ghost use mathlib.Core.Bool.{cond};
 ghost use Prim.Native.Nat.{_<_};
 ghost use lib.ListN.{getD, set};
 ghost use Rattle.bus.specs.Registers.{registerAt, isMemory};
-ghost use Rattle.bus.specs.Access.{withPorts, withTimer, withSerial, ramControlOf, fetched, readRegister, readOf, writeRegister, writeOf, takes, storeOf};
+ghost use Rattle.bus.specs.Access.{withPorts, withTimer, withSerial, ramControlOf, fetched, readRegister, readOf, writeRegister, writeOf, writable, storeOf};
 ghost use Rattle.bus.specs.Units.{port1Pins, port2Pins, byteReceived, lineIdle, byteSent, passed, resetBus, busRanges};
 
 // `rame` and `standby` are bits 6 and 7 of $14; `r` is where read-only memory starts.
@@ -105,6 +105,13 @@ fn is_memory(which: Register) -> bool
         Register::OfSerial(_) => false,
         Register::RamControl => false,
     }
+}
+
+// Whether memory at an address can be written, where read-only memory starts at `start`.
+fn is_writable(start: u32, at: u16) -> bool
+    ensures { λ r. ⌜ r ≡ writable start at ⌝ }
+{
+    ((128 <= at) & (at < 256)) | ((at as u32) < start)
 }
 
 impl Bus {
@@ -229,7 +236,7 @@ impl Bus {
         ensures { λ r. ⌜ r ≡ writeOf at v self ⌝ ∗ ⌜ now (image .exit) ≡ storeOf (self .r) at v (now (image .entry)) ⌝ }
     {
         let which = register_at(at);
-        store(image, is_memory(which) & ((at as u32) < self.r), at, v);
+        store(image, is_memory(which) & is_writable(self.r, at), at, v);
         self.write_register(which, v)
     }
 
@@ -240,12 +247,7 @@ impl Bus {
             let b = self;
             return b.write_low(image, at, v);
         }
-        store(
-            image,
-            ((128 <= at) & (at < 256)) | ((at as u32) < self.r),
-            at,
-            v,
-        );
+        store(image, is_writable(self.r, at), at, v);
         self
     }
 }

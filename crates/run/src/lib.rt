@@ -5,6 +5,7 @@ use boundary::State;
 use boundary::Stop;
 use machine::Machine;
 use serial::Serial;
+use timer::Timer;
 ghost use mathlib.Core.Path.{_≡_};
 ghost use mathlib.Core.Bool.{true, _&&_, _||_};
 ghost use mathlib.Core.List.{List};
@@ -12,6 +13,7 @@ ghost use lib.Dec.{leb};
 ghost use Prim.Native.Nat.{ℕ, _+_, _≤_, _<_};
 ghost use Rattle.session.specs.Session.{dueAt};
 ghost use Rattle.serial.specs.Serial.{wantsToSend, ticksSerial};
+ghost use Rattle.timer.specs.Timer.{ticks};
 ghost use Rattle.machine.specs.Machine.{passedOf};
 ghost use Rattle.machine.specs.Interrupts.{pendingOf};
 ghost use Rattle.boundary.specs.Boundary.{worldOf, endedOf, runOf};
@@ -67,6 +69,14 @@ fn flag_room(most: u32, set: bool, on: bool, d: u32) -> u32
     least(most, d)
 }
 
+// Cycles until OCF or TOF would cause an interrupt with I clear, at most `most`.
+fn timer_room(most: u32, t: Timer) -> u32
+    ensures { λ r. ⌜ First most r (λ j. (ticks j t .ocf .set && t .eoci) || (ticks j t .tof .set && t .etoi)) ⌝ }
+{
+    let k = flag_room(most, t.ocf.set, t.eoci, t.until_compare());
+    flag_room(k, t.tof.set, t.etoi, t.until_overflow())
+}
+
 // Cycles until an interrupt is accepted, at most `most`.
 fn interrupt_room(most: u32, m: Machine) -> u32
     ensures { λ r. ⌜ First most r (λ j. isDue (pendingOf (passedOf j m))) ⌝ }
@@ -81,8 +91,7 @@ fn interrupt_room(most: u32, m: Machine) -> u32
     if !m.irq1 | (t.icf.set & t.eici) | m.chip.bus.serial.requests() {
         return 0;
     }
-    let k = flag_room(most, t.ocf.set, t.eoci, t.until_compare());
-    flag_room(k, t.tof.set, t.etoi, t.until_overflow())
+    timer_room(most, t)
 }
 
 // After a waiting cycle, the rest of its leap at once: the run goes on the same, from where the leap ends.

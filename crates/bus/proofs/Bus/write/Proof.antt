@@ -1,11 +1,10 @@
-use Rattle.bus.specs.Access.{writeOf, storeOf}
-use Rattle.bus.proofs.Plain.{plain}
+use mathlib.Core.Path.{sym}
+use Rattle.bus.proofs.Stores.{plain-write, plain-store}
 use borrow.Author.Needs.{needs}
 use Rattle.bus.proofs.Bus.write.Statement.{statement}
 use Rattle.bus.proofs.Bus.write.Tie as tie
 
 pub write-spec : {M : Type 1} → statement M
-unfolding writeOf storeOf
 write-spec =
     tie.close
     (tie.spec
@@ -13,5 +12,6 @@ write-spec =
     (λ c. search needs)
     (λ c. search needs)
     (λ c κs. search needs)
+    (λ c κs. search needs)
     (λ c. search needs)
-    (λ c. (rw (plain _ (c .before .before .before .before .before .if1 .left)), rw (plain _ (c .before .before .before .before .before .if1 .left)) (c .before .before .store .ensures))))
+    (λ c. (sym (plain-write _ _ _ (search needs)), plain-store _ _ _ _ _ (c .before .before .before .is-writable .result) (c .before .before .store .ensures) (c .before .before .before .is-writable .ensures) (search needs))))

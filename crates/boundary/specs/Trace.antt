@@ -1,0 +1,115 @@
+-- Leaps in 01's words, over the boundaries of a run one by one: "A leap is a longest stretch of one or more waiting cycles
+-- (step 5) with no record, sending or interrupt at the boundary where any but the first of them begins."
+use Prim.Native.Nat.{ℕ, _+_, _-_}
+use mathlib.Core.Bool.{Bool, true, false, not, cond, _&&_}
+use mathlib.Core.List.{List, [], _∷_, _++_}
+use Rattle.turns.specs.Turn.{Turn, more, done, loopOf}
+use Rattle.session.specs.Session.{dueAt}
+use Rattle.machine.specs.declared.Machine.{Machine}
+use Rattle.machine.specs.declared.Pending.{Pending}
+use Rattle.machine.specs.declared.Pending.the-variants.{Nothing, Due}
+use Rattle.machine.specs.Interrupts.{pendingOf}
+use Rattle.boundary.specs.declared.State.{State}
+use Rattle.boundary.specs.Boundary.{World, Ended, recordsOf, sendsOf, sentState, boundaryOf}
+
+-- which of the steps 4, 5 and 6 a boundary takes
+pub data Taken : Type 0 where
+  entry : Taken
+  waitingCycle : Taken
+  instruction : Taken
+
+abbrev pub stepBy : Pending → Bool → Taken
+stepBy (Due cause) waiting = entry
+stepBy Nothing waiting = cond waiting waitingCycle instruction
+
+abbrev pub takenBy : Machine → Taken
+takenBy m = stepBy (pendingOf m) (m .chip .cpu .waiting)
+
+-- what a boundary that goes on did: whether a record was applied there, whether a byte was sent there, and its step
+pub record Mark : Type 0 where
+  pub applied : Bool
+  pub sent : Bool
+  pub taken : Taken
+
+unfoldable pub markOf : List ℕ → World → Mark
+markOf session w =
+    let s = recordsOf session (w .image) (w .state) in
+    record {
+      applied = dueAt session (w .state .cycles .0) (w .state .place);
+      sent = sendsOf s;
+      taken = takenBy (cond (sendsOf s) (sentState s) s .machine);
+    }
+
+-- The marks of a run, one for each boundary that goes on: the same boundaries as the run's, with the marks so far beside.
+pub record Traced : Type 0 where
+  pub marks : List Mark
+  pub world : World
+
+abbrev pub marked : Turn World Ended → List Mark → Mark → Turn Traced (List Mark)
+marked (more v) marks mark = more (record { marks = marks ++ mark ∷ []; world = v })
+marked (done e) marks mark = done marks
+
+unfoldable pub tracedTurn : List ℕ → ℕ → Traced → Turn Traced (List Mark)
+tracedTurn session n t = marked (boundaryOf session n (t .world)) (t .marks) (markOf session (t .world))
+
+unfoldable pub traceOf : List ℕ → ℕ → World → List Mark
+traceOf session n w =
+    loopOf (tracedTurn session n) (λ (t : Traced). t .marks) (λ (t : Traced). n - t .world .state .cycles .0) (record { marks = []; world = w })
+
+-- "waiting cycles (step 5)"
+abbrev pub isWaiting : Taken → Bool
+isWaiting entry = false
+isWaiting waitingCycle = true
+isWaiting instruction = false
+
+abbrev pub isEntry : Taken → Bool
+isEntry entry = true
+isEntry waitingCycle = false
+isEntry instruction = false
+
+abbrev pub isInstruction : Taken → Bool
+isInstruction entry = false
+isInstruction waitingCycle = false
+isInstruction instruction = true
+
+abbrev pub waits : Mark → Bool
+waits m = isWaiting (m .taken)
+
+-- a waiting cycle "with no record, sending or interrupt at the boundary where [it] begins"
+abbrev pub quiet : Mark → Bool
+quiet m = waits m && (not (m .applied) && not (m .sent))
+
+-- a list of marks is a stretch where it is "one or more waiting cycles", and "any but the first" is quiet
+abbrev pub every : (Mark → Bool) → List Mark → Bool
+every test [] = true
+every test (m ∷ ms) = test m && every test ms
+
+abbrev pub isStretch : List Mark → Bool
+isStretch [] = false
+isStretch (m ∷ ms) = waits m && every quiet ms
+
+-- The marks in groups, cut wherever two neighbours are in no stretch together: so that no stretch goes over a cut, and the
+-- groups that are stretches are the longest ones.
+abbrev pub joins : Mark → List (List Mark) → List (List Mark)
+joins m [] = (m ∷ []) ∷ []
+joins m ([] ∷ gs) = (m ∷ []) ∷ gs
+joins m ((x ∷ g) ∷ gs) = cond (isStretch (m ∷ x ∷ [])) ((m ∷ x ∷ g) ∷ gs) ((m ∷ []) ∷ (x ∷ g) ∷ gs)
+
+abbrev pub groups : List Mark → List (List Mark)
+groups [] = []
+groups (m ∷ ms) = joins m (groups ms)
+
+abbrev pub countOf : {A : Type 0} → (A → Bool) → List A → ℕ
+countOf test [] = 0
+countOf test (x ∷ xs) = cond (test x) 1 0 + countOf test xs
+
+-- "The leaping run reports how many there were."
+unfoldable pub leapsOf : List Mark → ℕ
+leapsOf ms = countOf isStretch (groups ms)
+
+-- the interrupt entries and the instructions among them
+abbrev pub entriesOf : List Mark → ℕ
+entriesOf ms = countOf (λ (m : Mark). isEntry (m .taken)) ms
+
+abbrev pub instructionsOf : List Mark → ℕ
+instructionsOf ms = countOf (λ (m : Mark). isInstruction (m .taken)) ms

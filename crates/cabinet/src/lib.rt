@@ -1,0 +1,226 @@
+// The public calls: power-on, the two runs, the question about one opcode, and the filled part of a lent output.
+use boundary::Cycles;
+use boundary::Entries;
+use boundary::Instructions;
+use boundary::Leaps;
+use boundary::Records;
+use boundary::Sent;
+use boundary::State;
+use boundary::Stop;
+use machine::Machine;
+use machine::Power;
+use opcodes::Decoded;
+use session::Checked;
+ghost use mathlib.Core.Path.{_≡_};
+ghost use lib.ListN.{take};
+ghost use Rattle.boundary.specs.Start.{startOf};
+ghost use Rattle.cabinet.specs.Replies.{toldReply, toldAdmission, toldCheck, toldStop, toldPower, toldDecoded};
+ghost use Rattle.cabinet.specs.Answers.{refusalOf, endedWith, endOf, reportOf, answered, answerOf, leapsOf, powerAnswer, opcodeAnswer};
+
+// 01's replies 0 to 9, in order; 4 to 7 name the record, counted from 0.
+pub enum Reply {
+    Limit,
+    WrongImage,
+    WrongMachine,
+    WrongLimit,
+    Length(usize),
+    Kind(usize),
+    Value(usize),
+    Time(usize),
+    Undefined,
+    Full,
+}
+
+// What both runs report.
+pub struct Ran {
+    pub reply: Reply,
+    pub machine: Machine,
+    pub cycles: Cycles,
+    pub instructions: Instructions,
+    pub entries: Entries,
+    pub used: Records,
+    pub sent: Sent,
+}
+
+// What the leaping run reports: the same, and how many leaps there were.
+pub struct Leapt {
+    pub ran: Ran,
+    pub leaps: Leaps,
+}
+
+enum Admission {
+    Admitted,
+    Refused(Reply),
+}
+
+// How a call ends.
+struct Ending {
+    reply: Reply,
+    state: State,
+}
+
+// A machine with all counts 0, at the session's front.
+fn start(m: Machine) -> State
+    ensures { λ r. ⌜ r ≡ startOf m ⌝ }
+{
+    State {
+        machine: m,
+        place: 0,
+        used: Records(0),
+        cycles: Cycles(0),
+        instructions: Instructions(0),
+        entries: Entries(0),
+        sent: Sent(0),
+        leaps: Leaps(0),
+        inside: false,
+    }
+}
+
+// The reply of the session's check.
+fn verdict(c: Checked) -> Admission
+    ensures { λ r. ⌜ toldAdmission r ≡ toldCheck c ⌝ }
+{
+    match c {
+        Checked::Sound => Admission::Admitted,
+        Checked::Length(k) => Admission::Refused(Reply::Length(k)),
+        Checked::Kind(k) => Admission::Refused(Reply::Kind(k)),
+        Checked::Value(k) => Admission::Refused(Reply::Value(k)),
+        Checked::Time(k) => Admission::Refused(Reply::Time(k)),
+    }
+}
+
+// The tests of 1, 2 and 3, then the session from the front.
+fn admit(image: &[u8], m: Machine, session: &[u8], n: u32) -> Admission
+    ensures { λ r. ⌜ toldAdmission r ≡ refusalOf (now (image .entry)) m (now (session .entry)) n ⌝ }
+{
+    if image.len() != 65536 {
+        return Admission::Refused(Reply::WrongImage);
+    }
+    if !m.in_ranges() {
+        return Admission::Refused(Reply::WrongMachine);
+    }
+    if n > 1000000000 {
+        return Admission::Refused(Reply::WrongLimit);
+    }
+    verdict(session::check(session))
+}
+
+// The reply of a run that stopped.
+fn stopped(s: Stop) -> Reply
+    ensures { λ r. ⌜ toldReply r ≡ toldStop s ⌝ }
+{
+    match s {
+        Stop::Limit => Reply::Limit,
+        Stop::Undefined => Reply::Undefined,
+        Stop::Full => Reply::Full,
+    }
+}
+
+// A refusal, or a run to its end, leaping or single.
+fn end(
+    leaping: bool,
+    image: &mut [u8],
+    m: Machine,
+    session: &[u8],
+    n: u32,
+    output: &mut [u8],
+) -> Ending
+    ensures { λ r. ⌜ endedWith r (now (image .exit)) (now (output .exit)) ≡ endOf (now (image .entry)) m (now (session .entry)) n (now (output .entry)) ⌝ }
+{
+    let start = start(m);
+    let admission = admit(&image[..], m, session, n);
+    match admission {
+        Admission::Refused(reply) => Ending {
+            reply: reply,
+            state: start,
+        },
+        Admission::Admitted => {
+            let outcome = run::run(leaping, session, n, image, output, start);
+            let stop = outcome.stop;
+            let state = outcome.state;
+            Ending {
+                reply: stopped(stop),
+                state: state,
+            }
+        }
+    }
+}
+
+impl Ending {
+    // What both runs report of it.
+    fn report(self) -> Ran
+        ensures { λ r. ⌜ r ≡ reportOf self ⌝ }
+    {
+        let reply = self.reply;
+        let machine = self.state.machine;
+        let cycles = self.state.cycles;
+        let instructions = self.state.instructions;
+        let entries = self.state.entries;
+        let used = self.state.used;
+        let sent = self.state.sent;
+        Ran {
+            reply: reply,
+            machine: machine,
+            cycles: cycles,
+            instructions: instructions,
+            entries: entries,
+            used: used,
+            sent: sent,
+        }
+    }
+}
+
+// Power-on: a machine from an image and R, or a refusal.
+pub fn power_on(image: &[u8], r: u32) -> Power
+    ensures { λ p. ⌜ toldPower p ≡ powerAnswer (now (image .entry)) r ⌝ }
+{
+    machine::power_on(image, r)
+}
+
+// The single run: each waiting cycle is a boundary of its own.
+pub fn run_single(
+    image: &mut [u8],
+    m: Machine,
+    session: &[u8],
+    n: u32,
+    output: &mut [u8],
+) -> Ran
+    ensures { λ r. ⌜ answered r (now (image .exit)) (now (output .exit)) ≡ answerOf (now (image .entry)) m (now (session .entry)) n (now (output .entry)) ⌝ }
+{
+    end(false, image, m, session, n, output).report()
+}
+
+// The leaping run: the same answer, and how many leaps there were.
+pub fn run_leaping(
+    image: &mut [u8],
+    m: Machine,
+    session: &[u8],
+    n: u32,
+    output: &mut [u8],
+) -> Leapt
+    ensures { λ r. ⌜ (answered (r .ran) (now (image .exit)) (now (output .exit)) ≡ answerOf (now (image .entry)) m (now (session .entry)) n (now (output .entry))) × (r .leaps .0 ≡ leapsOf (now (image .entry)) m (now (session .entry)) n (now (output .entry))) ⌝ }
+{
+    let e = end(true, image, m, session, n, output);
+    let leaps = e.state.leaps;
+    Leapt {
+        ran: e.report(),
+        leaps: leaps,
+    }
+}
+
+// One opcode's operation, operand place, length and cycles, or that it is undefined.
+pub fn ask(opcode: u8) -> Decoded
+    ensures { λ r. ⌜ toldDecoded r ≡ opcodeAnswer opcode ⌝ }
+{
+    opcodes::decode(opcode)
+}
+
+// The filled part of an output: its first `sent` bytes, or all of it where there are no more.
+pub fn filled(output: &[u8], sent: usize) -> &[u8]
+    ensures { λ r. ⌜ now r ≡ take sent (now (output .entry)) ⌝ }
+{
+    if sent <= output.len() {
+        return &output[..sent];
+    }
+    output
+}

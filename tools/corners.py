@@ -1,0 +1,142 @@
+#!/usr/bin/env python3
+"""Makes the rows of the program `corners` and the answers that 01 gives, from docs/CORNERS.md.
+
+    python3 tools/corners.py        writes crates/corners/stdin and crates/corners/stdout
+
+The rows of the page's last table are taken as they stand. Those of $00 to $1F are worked out here from 01's words on each
+register, which the page's first table repeats. A row is its name (24 columns), R, the number of instructions, and the code.
+"""
+BEFORE = {
+    "pc": 0x1000, "a": 0xB6, "b": 0x5D, "cc": 0xD0, "direction1": 0x0F, "latch1": 0x3C, "direction2": 0x13, "latch2": 0x11,
+    "tcsr": 0xEA, "tof-armed": 0, "ocf-armed": 0, "icf-armed": 0, "counter": 0x1234, "compare": 0x5678,
+    "trcs": 0xF5, "tdre-armed": 0, "orfe-armed": 0, "rdrf-armed": 0, "rate": 9, "transmit": 0x2C, "rame": 1, "standby": 0,
+}
+DIGITS = {"pc": 4, "counter": 4, "compare": 4, "rame": 1, "standby": 1}
+READS = {0x02: 0xAC, 0x03: 0xBF, 0x08: 0xEA, 0x09: 0x12, 0x0A: 0x34, 0x0B: 0x56, 0x0C: 0x78, 0x0D: 0x9A, 0x0E: 0xBC,
+         0x11: 0xF5, 0x12: 0x6B, 0x14: 0x40}
+MEMORY = {0x04, 0x05, 0x06, 0x07, 0x0F, 0x20}
+BIT = {"tof": ("tcsr", 0x20), "ocf": ("tcsr", 0x40), "icf": ("tcsr", 0x80),
+       "tdre": ("trcs", 0x20), "orfe": ("trcs", 0x40), "rdrf": ("trcs", 0x80)}
+
+
+def arm(now, *flags):
+    """Reading TCSR or TRCS arms each flag then set; all are."""
+    for flag in flags:
+        now[flag + "-armed"] = 1
+
+
+def clear(now, *flags):
+    """An armed flag clears, and clearing disarms. An unarmed access leaves the flag."""
+    for flag in flags:
+        if now[flag + "-armed"]:
+            register, bit = BIT[flag]
+            now[register] -= bit
+            now[flag + "-armed"] = 0
+
+
+def read(now, at):
+    if at == 0x08:
+        arm(now, "tof", "ocf", "icf")
+    if at == 0x09:
+        clear(now, "tof")
+    if at == 0x0D:
+        clear(now, "icf")
+    if at == 0x11:
+        arm(now, "tdre", "orfe", "rdrf")
+    if at == 0x12:
+        clear(now, "rdrf", "orfe")
+    return at if at in MEMORY else READS.get(at, 0xFF)
+
+
+def write(now, at, v):
+    if at in MEMORY:
+        now[f"[{at:04x}]"] = v
+    whole = {0x00: "direction1", 0x02: "latch1", 0x13: "transmit"}
+    if at in whole:
+        now[whole[at]] = v
+    if at == 0x01:
+        now["direction2"] = v % 32
+    if at == 0x03:
+        now["latch2"] = v % 32
+    if at == 0x08:
+        now["tcsr"] = now["tcsr"] // 32 * 32 + v % 32
+    if at == 0x09:
+        now["counter"] = 0xFFF8
+    if at == 0x0B:
+        now["compare"] = v * 256 + now["compare"] % 256
+        clear(now, "ocf")
+    if at == 0x0C:
+        now["compare"] = now["compare"] // 256 * 256 + v
+        clear(now, "ocf")
+    if at == 0x10:
+        now["rate"] = v % 16
+    if at == 0x11:
+        now["trcs"] = now["trcs"] // 32 * 32 + v % 32
+    if at == 0x13:
+        clear(now, "tdre")
+    if at == 0x14:
+        now["rame"], now["standby"] = v // 64 % 2, v // 128
+
+
+def codes(value, top):
+    """D0 with N and Z of a value, whose sign bit is top; no value here is 7F plus one."""
+    return 0xD0 + 8 * (value >= top) + 4 * (value == 0)
+
+
+def ldaa(now, at):
+    now["a"] = read(now, at)
+    now["cc"] = codes(now["a"], 0x80)
+
+
+def staa(now, at):
+    write(now, at, now["a"])
+    now["cc"] = codes(now["a"], 0x80)
+
+
+def inc(now, at):
+    v = (read(now, at) + 1) % 256
+    write(now, at, v)
+    now["cc"] = codes(v, 0x80)
+
+
+def ldd(now, at):
+    now["a"] = read(now, at)
+    now["b"] = read(now, at + 1)
+    now["cc"] = codes(now["a"] * 256 + now["b"], 0x8000)
+
+
+def std(now, at):
+    write(now, at, now["a"])
+    write(now, at + 1, now["b"])
+    now["cc"] = codes(now["a"] * 256 + now["b"], 0x8000)
+
+
+def answer(work, at, length, cycles):
+    now = dict(BEFORE)
+    work(now, at)
+    now["pc"] += length
+    now["counter"] = (now["counter"] + cycles) % 65536
+    changes = [f"{name} {v:0{DIGITS.get(name, 1 if 'armed' in name else 2)}x}" for name, v in now.items() if BEFORE.get(name) != v]
+    return " ".join([f"cycles {cycles}"] + changes)
+
+
+def registers():
+    families = [("LDAA", ldaa, "96", 3), ("STAA", staa, "97", 3), ("INC", inc, "7C 00", 6), ("LDD", ldd, "DC", 4), ("STD", std, "DD", 4)]
+    for name, work, opcode, cycles in families:
+        for at in range(0x20):
+            code = f"{opcode} {at:02X}"
+            yield f"{name} {at:04X}", "10000", "1", code, answer(work, at, len(code.split()), cycles)
+
+
+def singles():
+    with open("docs/CORNERS.md") as page:
+        for line in page:
+            cells = [cell.strip() for cell in line.strip().strip("|").split("|")]
+            if len(cells) == 6 and cells[2].isdigit():
+                yield cells[:5]
+
+
+with open("crates/corners/stdin", "w") as rows, open("crates/corners/stdout", "w") as answers:
+    for name, start, steps, code, text in [*registers(), *singles()]:
+        rows.write(f"{name:24}{start} {steps} {code}\n")
+        answers.write(f"{name:24}{text}\n")
