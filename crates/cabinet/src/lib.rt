@@ -178,26 +178,14 @@ pub fn power_on(image: &[u8], r: u32) -> Power
 }
 
 // The single run: each waiting cycle is a boundary of its own.
-pub fn run_single(
-    image: &mut [u8],
-    m: Machine,
-    session: &[u8],
-    n: u32,
-    output: &mut [u8],
-) -> Ran
+pub fn run_single(image: &mut [u8], m: Machine, session: &[u8], n: u32, output: &mut [u8]) -> Ran
     ensures { λ r. ⌜ answered r (now (image .exit)) (now (output .exit)) ≡ answerOf (now (image .entry)) m (now (session .entry)) n (now (output .entry)) ⌝ }
 {
     end(false, image, m, session, n, output).report()
 }
 
 // The leaping run: the same answer, and how many leaps there were.
-pub fn run_leaping(
-    image: &mut [u8],
-    m: Machine,
-    session: &[u8],
-    n: u32,
-    output: &mut [u8],
-) -> Leapt
+pub fn run_leaping(image: &mut [u8], m: Machine, session: &[u8], n: u32, output: &mut [u8]) -> Leapt
     ensures { λ r. ⌜ (answered (r .ran) (now (image .exit)) (now (output .exit)) ≡ answerOf (now (image .entry)) m (now (session .entry)) n (now (output .entry))) × (r .leaps .0 ≡ leapsOf (now (image .entry)) m (now (session .entry)) n (now (output .entry))) ⌝ }
 {
     let e = end(true, image, m, session, n, output);

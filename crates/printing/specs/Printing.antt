@@ -1,10 +1,18 @@
 -- A line of text in ASCII, and numbers as text.
 use Prim.Native.Nat.{ℕ, zero, suc, _+_, _/_, _%_}
+use Prim.Native.Char.{code}
+use Prim.Native.String.{String}
+use Prim.Native.String as string
 use mathlib.Core.List.{List, [], _∷_, _++_}
 use mathlib.Core.Bool.{cond}
 use lib.ListN.{set, replicate}
 use lib.Dec.{ltb}
 use Rattle.printing.specs.declared.Line.{Line}
+
+-- a text's codes
+abbrev pub ascii : String → List ℕ
+ascii string.[] = []
+ascii (string._∷_ c s) = code c ∷ ascii s
 
 abbrev pub emptyLine : Line
 emptyLine = record { bytes = replicate 256 0; length = 0 }

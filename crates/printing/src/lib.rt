@@ -70,4 +70,10 @@ impl Line {
     {
         self.byte((v / 256) as u8).byte((v % 256) as u8)
     }
+    // Written to standard output.
+    pub fn print(self) {
+        let bytes = self.bytes;
+        let k = self.length as usize;
+        io::write_all(1, &bytes[..k]);
+    }
 }
