@@ -61,10 +61,10 @@ fn refused(reply: u8) -> Line
     Line::empty().text(b"refused ").decimal(reply as u64)
 }
 
-fn refused_record(reply: u8, record: usize) -> Line
-    ensures { λ r. ⌜ r ≡ putsOf emptyLine (refusedText (told reply (some record))) ⌝ }
+fn refused_record(reply: u8, number: usize) -> Line
+    ensures { λ r. ⌜ r ≡ putsOf emptyLine (refusedText (told reply (some number))) ⌝ }
 {
-    refused(reply).text(b" record ").decimal(record as u64)
+    refused(reply).text(b" record ").decimal(number as u64)
 }
 
 // What a run comes to.
