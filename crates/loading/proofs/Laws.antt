@@ -15,7 +15,8 @@ use Rattle.turns.specs.Turn.{Turn, more, done}
 use Rattle.turns.proofs.Laws.{loop-more, loop-done}
 use Rattle.session.specs.Session.{lengthAt, kindAt, nextAt}
 use Rattle.loading.specs.Loading.{isWhole, addressAt, bytesAt, isLoad, isRun, afterLoads, storedAt, Loading, loadTurn, loadsOf, isGood, runAt, loadedOf, imageOf}
-use Rattle.loading.specs.declared.Loaded.the-variants.{Bad}
+use Rattle.loading.specs.declared.Loaded.{Loaded}
+use Rattle.loading.specs.declared.Loaded.the-variants.{Bad, Run}
 
 pub set-past : (l : List ℕ) (i b : ℕ) → length l ≤ i → set l i b ≡ l
 set-past [] i b h = refl
@@ -131,3 +132,17 @@ module _ (s : List ℕ) where
   pub loaded-run : (image : List ℕ) → isGood s ≡ true → (loadedOf s ≡ runAt s (afterLoads s 0)) × (imageOf s image ≡ loadsOf s 0 image)
   unfolding loadedOf imageOf
   loaded-run image e = rw e (refl, refl)
+
+  -- a session begins within the input
+  pub session-within : (n r k : ℕ) → loadedOf s ≡ Run n r k → k ≤ length s
+  unfolding loadedOf isGood
+  session-within n r k e = by (leb (length s) 16384) (isRun s (afterLoads s 0)) refl e
+    where
+      place : Loaded → ℕ
+      place Bad = 0
+      place (Run n r k) = k
+
+      by : (a b : Bool) → isRun s (afterLoads s 0) ≡ b → cond (a && b) (runAt s (afterLoads s 0)) Bad ≡ Run n r k → k ≤ length s
+      by true true i e = subst (λ (x : ℕ). x ≤ length s) (ap place e) (run-within s (afterLoads s 0) i .2)
+      by true false i e = subst (λ (x : ℕ). x ≤ length s) (ap place e) (omega arith)
+      by false b i e = subst (λ (x : ℕ). x ≤ length s) (ap place e) (omega arith)

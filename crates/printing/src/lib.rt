@@ -17,6 +17,13 @@ fn digit(d: u8) -> u8
     if d < 10 { 48 + d } else { 55 + d }
 }
 
+fn write_first(bytes: &[u8; 256], k: usize)
+    requires { ⌜ k < 256 ⌝ }
+{
+    let whole: &[u8] = bytes;
+    io::write_all(1, &whole[..k]);
+}
+
 impl Line {
     pub fn empty() -> Line
         ensures { λ r. ⌜ r ≡ emptyLine ⌝ }
@@ -73,7 +80,6 @@ impl Line {
     // Written to standard output.
     pub fn print(self) {
         let bytes = self.bytes;
-        let k = self.length as usize;
-        io::write_all(1, &bytes[..k]);
+        write_first(&bytes, self.length as usize);
     }
 }
