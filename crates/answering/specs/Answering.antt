@@ -11,7 +11,7 @@ use Rattle.machine.specs.declared.Machine.{Machine}
 use Rattle.loading.specs.declared.Loaded.{Loaded}
 use Rattle.loading.specs.declared.Loaded.the-variants.{Bad, Run}
 use Rattle.loading.specs.Loading.{loadedOf, imageOf}
-use Rattle.cabinet.specs.Replies.{Told, told, Given, gives, replies}
+use Rattle.cabinet.specs.Replies.{Given, gives, replies}
 use Rattle.cabinet.specs.Answers.{Answer, answerOf, powerAnswer}
 use Rattle.printing.specs.Printing.{ascii, decimalOf, hexadecimalOf}
 
@@ -38,30 +38,34 @@ abbrev pub stopText : ℕ → Answer → List ℕ
 stopText reply a = countsText reply a ++ registersText (a .machine .chip .cpu)
 
 -- "Replies 1 to 3 and 10 print `refused K`; 4 to 7 print `refused K record R`"
-unfoldable pub recordText : Option ℕ → List ℕ
-recordText none = []
-recordText (some r) = ascii " record " ++ decimalOf r
+abbrev pub refusal : ℕ → List ℕ
+refusal k = ascii "refused " ++ decimalOf k
 
-unfoldable pub refusedText : Told → List ℕ
-refusedText t = ascii "refused " ++ decimalOf (t .number) ++ recordText (t .named)
+unfoldable pub refusedText : ℕ → Option ℕ → List ℕ
+refusedText k none = refusal k
+refusedText k (some r) = refusal k ++ ascii " record " ++ decimalOf r
 
 -- the replies that a run stops with
 abbrev pub stops : ℕ → Bool
 stops reply = eqb reply 0 || eqb reply 8 || eqb reply 9
 
 unfoldable pub textOf : Answer → List ℕ
-textOf a = cond (stops (a .reply .number)) (stopText (a .reply .number) a) (refusedText (a .reply))
+textOf a = cond (stops (a .reply .number)) (stopText (a .reply .number) a) (refusedText (a .reply .number) (a .reply .named))
 
 -- "output room is 256"; the results are the leaping run's, which are the single run's
 unfoldable pub onPower : List ℕ → List ℕ → ℕ → Given Machine → List ℕ
-onPower image session n (replies k) = refusedText (told k none)
+onPower image session n (replies k) = refusedText k none
 onPower image session n (gives m) = textOf (answerOf image m session n (replicate 256 0))
 
--- "Unloaded bytes are 0"; a bad input is reply 10
+-- "Unloaded bytes are 0"
+unfoldable pub unloaded : List ℕ
+unloaded = replicate 65536 0
+
+-- a bad input is reply 10
 unfoldable pub onLoaded : List ℕ → Loaded → List ℕ
-onLoaded input Bad = refusedText (told 10 none)
+onLoaded input Bad = refusedText 10 none
 onLoaded input (Run n r start) =
-    let image = imageOf input (replicate 65536 0) in
+    let image = imageOf input unloaded in
     onPower image (drop start input) n (powerAnswer image r)
 
 -- the line, "then a newline"

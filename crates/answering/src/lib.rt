@@ -8,10 +8,10 @@ use registers::Cpu;
 ghost use mathlib.Core.Path.{_≡_};
 ghost use mathlib.Core.List.{[]};
 ghost use mathlib.Core.Option.{none, some};
-ghost use Rattle.cabinet.specs.Replies.{told};
+ghost use lib.ListN.{length};
 ghost use Rattle.cabinet.specs.Answers.{answered, powerAnswer};
 ghost use Rattle.printing.specs.Printing.{emptyLine, putsOf};
-ghost use Rattle.answering.specs.Answering.{countsText, registersText, stopText, refusedText, textOf, onPower, lineOf};
+ghost use Rattle.answering.specs.Answering.{countsText, registersText, stopText, refusedText, textOf, onPower, unloaded, lineOf};
 
 // The counts, in decimal.
 fn counts(line: Line, reply: u8, ran: Ran) -> Line
@@ -56,13 +56,13 @@ fn stopped(reply: u8, ran: Ran) -> Line
 }
 
 fn refused(reply: u8) -> Line
-    ensures { λ r. ⌜ r ≡ putsOf emptyLine (refusedText (told reply none)) ⌝ }
+    ensures { λ r. ⌜ r ≡ putsOf emptyLine (refusedText reply none) ⌝ }
 {
     Line::empty().text(b"refused ").decimal(reply as u64)
 }
 
 fn refused_record(reply: u8, number: usize) -> Line
-    ensures { λ r. ⌜ r ≡ putsOf emptyLine (refusedText (told reply (some number))) ⌝ }
+    ensures { λ r. ⌜ r ≡ putsOf emptyLine (refusedText reply (some number)) ⌝ }
 {
     refused(reply).text(b" record ").decimal(number as u64)
 }
@@ -102,11 +102,18 @@ fn powered(session: &[u8], n: u32, r: u32, image: &mut [u8]) -> Line
     }
 }
 
+// An image with nothing loaded.
+fn blank() -> [u8; 65536]
+    ensures { λ r. ⌜ (r ≡ unloaded) × (65536 ≡ length r) ⌝ }
+{
+    [0u8; 65536]
+}
+
 // An input's line.
 pub fn answer(input: &[u8]) -> Line
     ensures { λ r. ⌜ r ≡ putsOf emptyLine (lineOf (now (input .entry))) ⌝ }
 {
-    let mut image = [0u8; 65536];
+    let mut image = blank();
     let loaded = loading::load(input, &mut image);
     match loaded {
         Loaded::Bad => refused(10).text(b"\n"),
