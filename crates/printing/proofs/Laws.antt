@@ -20,6 +20,10 @@ unfolding putsOf
 puts-both l [] b = refl
 puts-both l (x ∷ a) b = puts-both (putOf l x) a b
 
+-- a text, and then another
+pub puts-then : (l : Line) {m r : Line} (a b : List ℕ) → m ≡ putsOf l a → r ≡ putsOf m b → r ≡ putsOf l (a ++ b)
+puts-then l a b e f = f ∙ ap (λ (x : Line). putsOf x b) e ∙ puts-both l a b
+
 -- a text put byte by byte
 pub puts-more : (text : List ℕ) (l : Line) (i : ℕ) → i < length text
     → putsOf l (drop i text) ≡ putsOf (putOf l (getD text i 0)) (drop (i + 1) text)
