@@ -2,6 +2,12 @@
 ghost use Prim.Native.Nat.{_≤_, _<_};
 ghost use lib.ListN.{length};
 
+fn wide(b: u8) -> usize
+    ensures { λ r. ⌜ r < 256 ⌝ }
+{
+    b as usize
+}
+
 // The place after the input at a place, which is shown where all of it is there.
 fn show(cases: &[u8], at: usize) -> usize
     requires { ⌜ at < length (now cases) ⌝ }
@@ -10,7 +16,7 @@ fn show(cases: &[u8], at: usize) -> usize
     if cases.len() - at < 2 {
         return cases.len();
     }
-    let size = (cases[at] as usize) + 256 * (cases[at + 1] as usize);
+    let size = wide(cases[at]) + 256 * wide(cases[at + 1]);
     let from = at + 2;
     if cases.len() - from < size {
         return cases.len();
