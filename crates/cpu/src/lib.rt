@@ -54,7 +54,7 @@ pub struct PoppedWord {
     pub chip: Chip,
 }
 
-fn target_of(place: Place) -> Target
+pub fn target_of(place: Place) -> Target
     ensures { λ r. ⌜ r ≡ targetOf place ⌝ }
 {
     match place {

@@ -112,15 +112,63 @@ fn leap(session: &[u8], n: u32, s: State) -> State
     s.moved(m.pass(k), k, 0, 0, 0, true)
 }
 
-// What either run does between two boundaries.
-fn pace(leaping: bool, session: &[u8], n: u32, s: State) -> State
-    requires { ⌜ Fine s × (n ≤ 1000000000) ⌝ }
-    ensures { λ r. ⌜ Fine r × (s .cycles .0 ≤ r .cycles .0) × ((i o : List ℕ) → runOf (now (session .entry)) n (worldOf s i o) ≡ runOf (now (session .entry)) n (worldOf r i o)) ⌝ }
+// How many cycles pass before a boundary that is more than a waiting cycle or an instruction.
+fn room(session: &[u8], n: u32, s: State) -> u32
+    requires { ⌜ s .cycles .0 ≤ n ⌝ }
+    ensures { λ r. ⌜ First (n - s .cycles .0) r (stirs (now (session .entry)) s) ⌝ }
 {
-    if leaping {
-        return leap(session, n, s);
+    let m = s.machine;
+    let a = record_room(n - s.cycles.0, session, s.cycles.0, s.place);
+    let b = send_room(a, m.chip.bus.serial);
+    interrupt_room(b, m)
+}
+
+// Plain instructions one after the other, as long as nothing else stirs: the run goes on the same, from where they end.
+fn stride(session: &[u8], n: u32, s: State, image: &mut [u8]) -> State
+{
+    if n <= s.cycles.0 {
+        return s;
     }
-    s
+    let m = s.machine;
+    let room = room(session, n, s);
+    let masked = m.chip.cpu.codes.i;
+    let start = m.chip.bus.r;
+    let mut c = m.chip.cpu;
+    let mut cycles = 0;
+    let mut instructions = 0;
+    loop {
+        if (room <= cycles) | c.waiting | (c.codes.i != masked) {
+            return strode(s, c, cycles, instructions);
+        }
+        let h = plain::step(c, start, image);
+        if h.cycles == 0 {
+            return strode(s, c, cycles, instructions);
+        }
+        c = h.cpu;
+        cycles = cycles + h.cycles as u32;
+        instructions = instructions + 1;
+    }
+}
+
+fn strode(s: State, c: registers::Cpu, cycles: u32, instructions: u32) -> State
+{
+    let m = s.machine;
+    let bus = m.chip.bus.pass(cycles);
+    let chip = cpu::Chip { cpu: c, bus: bus };
+    let next = Machine { chip: chip, irq1: m.irq1, nmi: m.nmi };
+    s.moved(next, cycles, instructions, 0, 0, s.inside & (instructions == 0))
+}
+
+// What either run does between two boundaries.
+fn pace(leaping: bool, session: &[u8], n: u32, s: State, image: &mut [u8]) -> State
+{
+    if s.machine.chip.cpu.waiting {
+        if leaping {
+            return leap(session, n, s);
+        }
+        return s;
+    }
+    stride(session, n, s, image)
 }
 
 // A run, leaping or single: boundaries until one stops it.
@@ -142,7 +190,7 @@ pub fn run(
         let progress = t.progress;
         match progress {
             Progress::Going => {
-                s = pace(leaping, session, n, next);
+                s = pace(leaping, session, n, next, image);
             }
             Progress::Stopped(stop) => {
                 return Outcome {
