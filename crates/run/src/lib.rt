@@ -124,8 +124,7 @@ fn room(session: &[u8], n: u32, s: State) -> u32
 }
 
 // Plain instructions one after the other, as long as nothing else stirs: the run goes on the same, from where they end.
-fn stride(session: &[u8], n: u32, s: State, image: &mut [u8]) -> State
-{
+fn stride(session: &[u8], n: u32, s: State, image: &mut [u8]) -> State {
     if n <= s.cycles.0 {
         return s;
     }
@@ -150,18 +149,27 @@ fn stride(session: &[u8], n: u32, s: State, image: &mut [u8]) -> State
     }
 }
 
-fn strode(s: State, c: registers::Cpu, cycles: u32, instructions: u32) -> State
-{
+fn strode(s: State, c: registers::Cpu, cycles: u32, instructions: u32) -> State {
     let m = s.machine;
     let bus = m.chip.bus.pass(cycles);
     let chip = cpu::Chip { cpu: c, bus: bus };
-    let next = Machine { chip: chip, irq1: m.irq1, nmi: m.nmi };
-    s.moved(next, cycles, instructions, 0, 0, s.inside & (instructions == 0))
+    let next = Machine {
+        chip: chip,
+        irq1: m.irq1,
+        nmi: m.nmi,
+    };
+    s.moved(
+        next,
+        cycles,
+        instructions,
+        0,
+        0,
+        s.inside & (instructions == 0),
+    )
 }
 
 // What either run does between two boundaries.
-fn pace(leaping: bool, session: &[u8], n: u32, s: State, image: &mut [u8]) -> State
-{
+fn pace(leaping: bool, session: &[u8], n: u32, s: State, image: &mut [u8]) -> State {
     if s.machine.chip.cpu.waiting {
         if leaping {
             return leap(session, n, s);
