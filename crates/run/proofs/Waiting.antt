@@ -24,12 +24,12 @@ use Rattle.machine.specs.declared.Pending.the-variants.{Nothing, Due}
 use Rattle.machine.specs.Machine.{passedOf}
 use Rattle.machine.specs.Interrupts.{pendingOf}
 use Rattle.boundary.specs.declared.State.{State}
-use Rattle.boundary.specs.Boundary.{worldOf, movedOf, sendsOf, waitedState, recordsOf, sendOf, actOf, boundaryOf, runOf}
+use Rattle.boundary.specs.Boundary.{worldOf, movedOf, waitedState, sendOf, runOf}
 use Rattle.boundary.specs.Counts.{Fine}
 use Rattle.boundary.proofs.Feeding.{records-done}
 use Rattle.boundary.proofs.Cases.{below-limit, send-rests, act-waits}
 use Rattle.boundary.proofs.Runs.{run-leap}
-use Rattle.run.specs.Leaps.{isDue, endsLeap, First}
+use Rattle.run.specs.Leaps.{isDue, endsLeap, First, stirs}
 use Rattle.run.proofs.Rooms.{neither, both}
 
 -- what decides whether an interrupt is accepted: a pending NMI; or, with I clear, a cause that is there now, OCF or TOF
@@ -93,7 +93,7 @@ module _ (session : List ℕ) (count at : ℕ) where
   unfolding dueAt
   a-record h j = ap (λ (t : Bool). t && leb (timeAt session at) (count + j)) (lt-ltb at (length session) h)
 
-not-due : (p : Pending) → isDue p ≡ false → p ≡ Nothing
+pub not-due : (p : Pending) → isDue p ≡ false → p ≡ Nothing
 not-due Nothing e = refl
 not-due (Due k) e = absurd (true≢false e)
 
@@ -101,24 +101,18 @@ not-due (Due k) e = absurd (true≢false e)
 abbrev pub still : State → ℕ → State
 still s j = movedOf s (passedOf j (s .machine)) j 0 0 0 true
 
-same : {m : Machine} {x y : State} {a a′ b b′ c c′ d d′ : ℕ} {f f′ : Bool} → x ≡ y → a ≡ a′ → b ≡ b′ → c ≡ c′ → d ≡ d′ → f ≡ f′
+pub same : {m m′ : Machine} {x y : State} {a a′ b b′ c c′ d d′ : ℕ} {f f′ : Bool} → m ≡ m′ → x ≡ y → a ≡ a′ → b ≡ b′ → c ≡ c′ → d ≡ d′ → f ≡ f′
     → _≡_ {A = State} (record { machine = m; place = x .place; used = x .used; cycles = record { 0 = a }; instructions = record { 0 = b }; entries = record { 0 = c }; sent = x .sent; leaps = record { 0 = d }; inside = f })
-    (record { machine = m; place = y .place; used = y .used; cycles = record { 0 = a′ }; instructions = record { 0 = b′ }; entries = record { 0 = c′ }; sent = y .sent; leaps = record { 0 = d′ }; inside = f′ })
-same o p q r s t = cc
+    (record { machine = m′; place = y .place; used = y .used; cycles = record { 0 = a′ }; instructions = record { 0 = b′ }; entries = record { 0 = c′ }; sent = y .sent; leaps = record { 0 = d′ }; inside = f′ })
+same l o p q r s t = cc
 
 still-zero : (s : State) → s .inside ≡ true → s ≡ still s 0
 unfolding passed ticks ticksSerial
-still-zero s e = same {x = s} refl (omega arith) (omega arith) (omega arith) (omega arith) e
+still-zero s e = same {x = s} refl refl (omega arith) (omega arith) (omega arith) (omega arith) e
 
 still-suc : (s : State) (j : ℕ) → waitedState (still s j) ≡ still s (suc j)
 unfolding waitedState passed ticks ticksSerial
-still-suc s j = same {x = s} refl (omega arith) (omega arith) (omega arith) (omega arith) refl
-
--- what would end the leap after j cycles
-abbrev pub stirs : List ℕ → State → ℕ → Bool
-stirs session s j =
-    (dueAt session (s .cycles .0 + j) (s .place) || wantsToSend (ticksSerial j (s .machine .chip .bus .serial)))
-    || isDue (pendingOf (passedOf j (s .machine)))
+still-suc s j = same {x = s} refl refl (omega arith) (omega arith) (omega arith) (omega arith) refl
 
 module _ (session : List ℕ) (n : ℕ) (s : State) (ins : s .inside ≡ true) (wait : s .machine .chip .cpu .waiting ≡ true) where
   -- as long as nothing stirs, the waiting cycles may be passed at once
@@ -182,9 +176,9 @@ leapt session n s k w h f p q =
     (still-fine s k f, omega arith, λ _. leap-ends session n s (e .0) (e .1) k h, leap-law session n s (e .0) (e .1) k h)
 
 -- a leap's cycles are within the limit, so no count can pass its type
-pub within-types : {s : State} {n a b k : ℕ} → Fine s → s .cycles .0 < n → n ≤ 1000000000 → a ≤ n - s .cycles .0 → b ≤ a → k ≤ b
+pub within-types : {s : State} {n k : ℕ} → Fine s → s .cycles .0 < n → n ≤ 1000000000 → k ≤ n - s .cycles .0
     → (s .cycles .0 + k < 2 ^ 32) × (s .instructions .0 + 0 < 2 ^ 32) × (s .entries .0 + 0 < 2 ^ 32) × (s .leaps .0 + 0 < 2 ^ 32)
-within-types f l h p q r =
+within-types f l h p =
     let x = f .instructions in
     let y = f .entries in
     let z = f .leaps in

@@ -1,16 +1,19 @@
 // The two runs over one boundary: the single one passes each waiting cycle as a boundary of its own, the leaping one passes
-// the rest of a wait at once, as far as nothing happens in it.
+// the rest of a wait at once, as far as nothing happens in it. In both, plain instructions follow each other as far as nothing
+// else happens among them.
 use boundary::Progress;
 use boundary::State;
 use boundary::Stop;
+use cpu::Chip;
 use machine::Machine;
+use registers::Cpu;
 use serial::Serial;
 use timer::Timer;
 ghost use mathlib.Core.Path.{_≡_};
 ghost use mathlib.Core.Bool.{true, _&&_, _||_};
 ghost use mathlib.Core.List.{List};
 ghost use lib.Dec.{leb};
-ghost use Prim.Native.Nat.{ℕ, _+_, _≤_, _<_};
+ghost use Prim.Native.Nat.{ℕ, _+_, _-_, _^_, _≤_, _<_};
 ghost use Rattle.session.specs.Session.{dueAt};
 ghost use Rattle.serial.specs.Serial.{wantsToSend, ticksSerial};
 ghost use Rattle.timer.specs.Timer.{ticks};
@@ -18,7 +21,7 @@ ghost use Rattle.machine.specs.Machine.{passedOf};
 ghost use Rattle.machine.specs.Interrupts.{pendingOf};
 ghost use Rattle.boundary.specs.Boundary.{worldOf, endedOf, runOf};
 ghost use Rattle.boundary.specs.Counts.{Fine};
-ghost use Rattle.run.specs.Leaps.{isDue, endsLeap, First};
+ghost use Rattle.run.specs.Leaps.{isDue, endsLeap, First, stirs, strodeOf};
 
 // How a run ended.
 pub struct Outcome {
@@ -94,24 +97,6 @@ fn interrupt_room(most: u32, m: Machine) -> u32
     timer_room(most, t)
 }
 
-// After a waiting cycle, the rest of its leap at once: the run goes on the same, from where the leap ends.
-fn leap(session: &[u8], n: u32, s: State) -> State
-    requires { ⌜ Fine s × (n ≤ 1000000000) ⌝ }
-    ensures { λ r. ⌜ Fine r × (s .cycles .0 ≤ r .cycles .0) × ((s .inside && s .machine .chip .cpu .waiting) ≡ true → endsLeap (now (session .entry)) n r ≡ true) × ((i o : List ℕ) → runOf (now (session .entry)) n (worldOf s i o) ≡ runOf (now (session .entry)) n (worldOf r i o)) ⌝ }
-{
-    if !(s.inside & s.machine.chip.cpu.waiting) {
-        return s;
-    }
-    if n <= s.cycles.0 {
-        return s;
-    }
-    let m = s.machine;
-    let a = record_room(n - s.cycles.0, session, s.cycles.0, s.place);
-    let b = send_room(a, m.chip.bus.serial);
-    let k = interrupt_room(b, m);
-    s.moved(m.pass(k), k, 0, 0, 0, true)
-}
-
 // How many cycles pass before a boundary that is more than a waiting cycle or an instruction.
 fn room(session: &[u8], n: u32, s: State) -> u32
     requires { ⌜ s .cycles .0 ≤ n ⌝ }
@@ -123,8 +108,49 @@ fn room(session: &[u8], n: u32, s: State) -> u32
     interrupt_room(b, m)
 }
 
+// After a waiting cycle, the rest of its leap at once: the run goes on the same, from where the leap ends.
+fn leap(session: &[u8], n: u32, s: State) -> State
+    requires { ⌜ Fine s × (n ≤ 1000000000) ⌝ }
+    ensures { λ r. ⌜ Fine r × (s .cycles .0 ≤ r .cycles .0) × ((s .inside && s .machine .chip .cpu .waiting) ≡ true → endsLeap (now (session .entry)) n r ≡ true) × ((i o : List ℕ) → runOf (now (session .entry)) n (worldOf s i o) ≡ runOf (now (session .entry)) n (worldOf r i o)) ⌝ }
+{
+    if !(s.inside & s.machine.chip.cpu.waiting) {
+        return s;
+    }
+    if n <= s.cycles.0 {
+        return s;
+    }
+    let k = room(session, n, s);
+    s.moved(s.machine.pass(k), k, 0, 0, 0, true)
+}
+
+// The state after so many instructions and cycles that left the bus alone.
+fn strode(s: State, c: Cpu, cycles: u32, instructions: u32) -> State
+    requires { ⌜ (s .cycles .0 + cycles < 2 ^ 32) × (s .instructions .0 + instructions < 2 ^ 32) × (s .entries .0 < 2 ^ 32) × (s .leaps .0 < 2 ^ 32) ⌝ }
+    ensures { λ r. ⌜ r ≡ strodeOf s c cycles instructions ⌝ }
+{
+    let m = s.machine;
+    let bus = m.chip.bus.pass(cycles);
+    let chip = Chip { cpu: c, bus: bus };
+    let next = Machine {
+        chip: chip,
+        irq1: m.irq1,
+        nmi: m.nmi,
+    };
+    s.moved(
+        next,
+        cycles,
+        instructions,
+        0,
+        0,
+        s.inside & (instructions == 0),
+    )
+}
+
 // Plain instructions one after the other, as long as nothing else stirs: the run goes on the same, from where they end.
-fn stride(session: &[u8], n: u32, s: State, image: &mut [u8]) -> State {
+fn stride(session: &[u8], n: u32, s: State, image: &mut [u8]) -> State
+    requires { ⌜ Fine s × (n ≤ 1000000000) ⌝ }
+    ensures { λ r. ⌜ Fine r × (s .cycles .0 ≤ r .cycles .0) × ((o : List ℕ) → runOf (now (session .entry)) n (worldOf s (now (image .entry)) o) ≡ runOf (now (session .entry)) n (worldOf r (now (image .exit)) o)) ⌝ }
+{
     if n <= s.cycles.0 {
         return s;
     }
@@ -149,27 +175,11 @@ fn stride(session: &[u8], n: u32, s: State, image: &mut [u8]) -> State {
     }
 }
 
-fn strode(s: State, c: registers::Cpu, cycles: u32, instructions: u32) -> State {
-    let m = s.machine;
-    let bus = m.chip.bus.pass(cycles);
-    let chip = cpu::Chip { cpu: c, bus: bus };
-    let next = Machine {
-        chip: chip,
-        irq1: m.irq1,
-        nmi: m.nmi,
-    };
-    s.moved(
-        next,
-        cycles,
-        instructions,
-        0,
-        0,
-        s.inside & (instructions == 0),
-    )
-}
-
 // What either run does between two boundaries.
-fn pace(leaping: bool, session: &[u8], n: u32, s: State, image: &mut [u8]) -> State {
+fn pace(leaping: bool, session: &[u8], n: u32, s: State, image: &mut [u8]) -> State
+    requires { ⌜ Fine s × (n ≤ 1000000000) ⌝ }
+    ensures { λ r. ⌜ Fine r × (s .cycles .0 ≤ r .cycles .0) × ((o : List ℕ) → runOf (now (session .entry)) n (worldOf s (now (image .entry)) o) ≡ runOf (now (session .entry)) n (worldOf r (now (image .exit)) o)) ⌝ }
+{
     if s.machine.chip.cpu.waiting {
         if leaping {
             return leap(session, n, s);

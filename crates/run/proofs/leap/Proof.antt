@@ -1,5 +1,4 @@
 use borrow.Author.Needs.{needs}
-use Rattle.run.proofs.Rooms.{first-or}
 use Rattle.run.proofs.Waiting.{leapt, limit-ends, within-types}
 use mathlib.Core.Path.{refl, sym, _∙_}
 use native.Mathlib.Omega.{arith}
@@ -14,10 +13,7 @@ leap-spec =
     (tie.spec
     (λ c. (c .before .before .before .pre .0, omega arith, λ e. absurd (true≢false (sym e ∙ not-true _ (c .if1 .taken))), λ i o. refl))  -- returns
     (λ c. (c .before .before .before .before .before .pre .0, omega arith, λ e. limit-ends _ _ (c .before .before .before .before .before .args .s) (c .if2 .taken), λ i o. refl))  -- returns-2
-    (λ c. search needs)  -- sub-record-room
-    (λ c κs. search needs)  -- record-room-requires
-    (λ c κs. search needs)  -- send-room-requires
-    (λ c κs. search needs)  -- interrupt-room-requires
+    (λ c κs. let h = c .if2 .left in omega (arith, h))  -- room-requires
     (λ c κs. search needs)  -- pass-requires
-    (λ c κs. within-types (c .before .before .before .before .before .before .before .before .before .before .before .pre .0) (c .before .before .before .before .before .before .if2 .left) (c .before .before .before .before .before .before .before .before .before .before .before .pre .1) (c .before .before .before .record-room .ensures .within) (c .before .before .send-room .ensures .within) (c .before .interrupt-room .ensures .within))  -- moved-requires
-    (λ c. let a = c .before .before .before .before .before .before .before .before .before .before .before .before .args in leapt (a .session .now) (a .n) (a .s) (c .before .before .interrupt-room .result) (not-false _ (c .before .before .before .before .before .before .before .before .before .if1 .left)) (first-or (first-or (c .before .before .before .before .record-room .ensures) (c .before .before .before .send-room .ensures)) (c .before .before .interrupt-room .ensures)) (c .before .before .before .before .before .before .before .before .before .before .before .before .pre .0) (c .before .pass .ensures) (c .moved .ensures)))  -- returns-3
+    (λ c κs. within-types (c .before .before .before .before .before .before .before .pre .0) (c .before .before .if2 .left) (c .before .before .before .before .before .before .before .pre .1) (c .before .room .ensures .within))  -- moved-requires
+    (λ c. let a = c .before .before .before .before .before .before .before .before .args in leapt (a .session .now) (a .n) (a .s) (c .before .before .room .result) (not-false _ (c .before .before .before .before .before .if1 .left)) (c .before .before .room .ensures) (c .before .before .before .before .before .before .before .before .pre .0) (c .before .pass .ensures) (c .moved .ensures)))  -- returns-3

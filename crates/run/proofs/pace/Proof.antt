@@ -1,0 +1,16 @@
+use borrow.Author.Needs.{needs}
+use mathlib.Core.Path.{refl}
+use native.Mathlib.Omega.{arith}
+use Rattle.run.proofs.pace.Statement.{statement}
+use Rattle.run.proofs.pace.Tie as tie
+
+pub pace-spec : {M : Type 1} → statement M
+pace-spec =
+    tie.close
+    (tie.spec
+    (λ c κs. c .before .before .before .before .pre)  -- leap-requires
+    (λ c. let l = c .leap .ensures in (l .0, l .1, λ o. l .3 _ o))  -- returns
+    (λ c. (c .before .before .before .before .pre .0, omega arith, λ o. refl))  -- returns-2
+    (λ c κs. c .before .before .before .before .pre)  -- stride-requires
+    (λ c. search needs)  -- same-length
+    (λ c. c .before .before .stride .ensures))  -- returns-3
