@@ -4,7 +4,7 @@ use native.Mathlib.Omega.{arith}
 use mathlib.Core.Bool.{Bool, true, false, not, _&&_, _||_, Bool·beq, and-true, and-false, true≢false}
 use mathlib.Core.List.{List}
 use mathlib.Core.Path.{_≡_, refl, sym, ap, subst, _∙_}
-use lib.Dec.{leb}
+use lib.Dec.{leb, eqb}
 use borrow.Author.Tests.{leb-false, ne-eqb}
 use Rattle.turns.specs.Turn.{more}
 use Rattle.timer.specs.Timer.{ticks}
@@ -41,6 +41,10 @@ alike-due j m c e =
     (ticks j (m .chip .bus .timer) .ocf .set && m .chip .bus .timer .eoci)
     (ticks j (m .chip .bus .timer) .tof .set && m .chip .bus .timer .etoi)) e
     ∙ sym (later j m)
+
+pub strode-law : (s : State) (c : Cpu) (j i : ℕ) {b : Bus} {r : State} → b ≡ passed j (s .machine .chip .bus)
+    → r ≡ movedOf s (onChip (s .machine) c b) j i 0 0 (s .inside && eqb i 0) → r ≡ strodeOf s c j i
+strode-law s c j i p q = q ∙ ap (λ (b : Bus). movedOf s (onChip (s .machine) c b) j i 0 0 (s .inside && eqb i 0)) p
 
 -- no instruction yet
 pub strode-none : (s : State) → s ≡ strodeOf s (s .machine .chip .cpu) 0 0
@@ -85,12 +89,12 @@ alike true false e = absurd (true≢false e)
 alike false true e = absurd (true≢false e)
 alike false false e = refl
 
--- the loop's test, where it goes on
+-- what ends the stride
 abbrev pub ends : ℕ → ℕ → Cpu → Bool → Bool
 ends room cycles c masked = (leb room cycles || c .waiting) || not (Bool·beq (c .codes .i) masked)
 
-pub below-room : (room cycles : ℕ) (c : Cpu) (masked : Bool) → ends room cycles c masked ≡ false → cycles < room
-below-room room cycles c masked on = leb-false room cycles (neither (leb room cycles) _ (neither (leb room cycles || c .waiting) _ on .0) .0)
+pub below-room : (room cycles : ℕ) (a b : Bool) → ((leb room cycles || a) || b) ≡ false → cycles < room
+below-room room cycles a b on = leb-false room cycles (neither (leb room cycles) a (neither (leb room cycles || a) b on .0) .0)
 
 -- one turn of the stride
 pub strides : (session : List ℕ) (n : ℕ) (s : State) (room : ℕ) (c : Cpu) (j i : ℕ) (h : Hop) (image₀ image after : List ℕ)
@@ -101,7 +105,7 @@ unfolding passed
 strides session n s room c j i h image₀ image after first on hops takes goes o =
     let q = neither (leb room j || c .waiting) _ on in
     let p = neither (leb room j) _ (q .0) in
-    let l = below-room room j c _ on in
+    let l = below-room room j _ _ on in
     let w = first .within in
     let z : 0 < h .cycles = omega arith in
     goes o
