@@ -93,13 +93,15 @@ fn verdict(c: Checked) -> Admission
 fn admit(image: &[u8], m: Machine, session: &[u8], n: u32) -> Admission
     ensures { λ r. ⌜ toldAdmission r ≡ refusalOf (now (image .entry)) m (now (session .entry)) n ⌝ }
 {
+    let wrong_machine = !m.in_ranges();
+    let wrong_limit = n > 1000000000;
     if image.len() != 65536 {
         return Admission::Refused(Reply::WrongImage);
     }
-    if !m.in_ranges() {
+    if wrong_machine {
         return Admission::Refused(Reply::WrongMachine);
     }
-    if n > 1000000000 {
+    if wrong_limit {
         return Admission::Refused(Reply::WrongLimit);
     }
     verdict(session::check(session))
@@ -189,10 +191,10 @@ pub fn run_leaping(image: &mut [u8], m: Machine, session: &[u8], n: u32, output:
     ensures { λ r. ⌜ (answered (r .ran) (now (image .exit)) (now (output .exit)) ≡ answerOf (now (image .entry)) m (now (session .entry)) n (now (output .entry))) × (r .leaps .0 ≡ leapsOf (now (image .entry)) m (now (session .entry)) n (now (output .entry))) ⌝ }
 {
     let e = end(true, image, m, session, n, output);
-    let leaps = e.state.leaps;
+    let leaps = e.state.leaps.0;
     Leapt {
         ran: e.report(),
-        leaps: leaps,
+        leaps: Leaps(leaps),
     }
 }
 

@@ -1,4 +1,5 @@
 -- `answering::counts` meets its contract: words and numbers in the same order. Assumes nothing.
+use Rattle.printing.specs.Printing.{decimalOf}
 use Rattle.printing.proofs.Laws.{puts-then}
 use Rattle.answering.specs.Answering.{countsText}
 use borrow.Author.Needs.{needs}
@@ -31,4 +32,4 @@ counts-spec =
     (λ c. search needs)  -- slice-aggregate-text-6
     (λ c κs. search needs)  -- text-requires-6
     (λ c κs. search needs)  -- decimal-requires-6
-    (λ c. puts-then _ _ _ (puts-then _ _ _ (puts-then _ _ _ (puts-then _ _ _ (puts-then _ _ _ (puts-then _ _ _ (puts-then _ _ _ (puts-then _ _ _ (puts-then _ _ _ (puts-then _ _ _ (puts-then _ _ _ (c .before .before .before .before .before .before .before .before .before .before .before .before .before .before .before .before .before .before .before .text .ensures) (c .before .before .before .before .before .before .before .before .before .before .before .before .before .before .before .before .before .before .decimal .ensures)) (c .before .before .before .before .before .before .before .before .before .before .before .before .before .before .before .before .text2 .ensures)) (c .before .before .before .before .before .before .before .before .before .before .before .before .before .before .decimal2 .ensures)) (c .before .before .before .before .before .before .before .before .before .before .before .before .text3 .ensures)) (c .before .before .before .before .before .before .before .before .before .before .decimal3 .ensures)) (c .before .before .before .before .before .before .before .before .text4 .ensures)) (c .before .before .before .before .before .before .decimal4 .ensures)) (c .before .before .before .before .text5 .ensures)) (c .before .before .before .decimal5 .ensures)) (c .before .text6 .ensures)) (c .decimal6 .ensures)))  -- returns
+    (λ c. let r = c .before .before .before .before .before .before .before .before .before .before .before .before .before .before .before .before .before .before .before .before .before .args .ran in puts-then _ _ (decimalOf (r .sent .0)) (puts-then _ _ _ (puts-then _ _ (decimalOf (r .used .0)) (puts-then _ _ _ (puts-then _ _ (decimalOf (r .entries .0)) (puts-then _ _ _ (puts-then _ _ (decimalOf (r .instructions .0)) (puts-then _ _ _ (puts-then _ _ (decimalOf (r .cycles .0)) (puts-then _ _ _ (puts-then _ _ (decimalOf (c .before .before .before .before .before .before .before .before .before .before .before .before .before .before .before .before .before .before .before .before .before .args .reply)) (c .before .before .before .before .before .before .before .before .before .before .before .before .before .before .before .before .before .before .before .text .ensures) (c .before .before .before .before .before .before .before .before .before .before .before .before .before .before .before .before .before .before .decimal .ensures)) (c .before .before .before .before .before .before .before .before .before .before .before .before .before .before .before .before .text2 .ensures)) (c .before .before .before .before .before .before .before .before .before .before .before .before .before .before .decimal2 .ensures)) (c .before .before .before .before .before .before .before .before .before .before .before .before .text3 .ensures)) (c .before .before .before .before .before .before .before .before .before .before .decimal3 .ensures)) (c .before .before .before .before .before .before .before .before .text4 .ensures)) (c .before .before .before .before .before .before .decimal4 .ensures)) (c .before .before .before .before .text5 .ensures)) (c .before .before .before .decimal5 .ensures)) (c .before .text6 .ensures)) (c .decimal6 .ensures)))  -- returns

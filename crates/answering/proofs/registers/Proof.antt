@@ -1,4 +1,5 @@
 -- `answering::registers` meets its contract: words and registers in the same order. Assumes nothing.
+use Rattle.printing.specs.Printing.{hexadecimalOf}
 use Rattle.printing.proofs.Laws.{puts-then}
 use Rattle.answering.specs.Answering.{registersText}
 use borrow.Author.Needs.{needs}
@@ -29,4 +30,4 @@ registers-spec =
     (λ c κs. search needs)  -- text-requires-6
     (λ c κs. search needs)  -- to-byte-requires
     (λ c κs. search needs)  -- byte-requires-3
-    (λ c. rw (← c .before .to-byte .ensures) (puts-then _ _ _ (puts-then _ _ _ (puts-then _ _ _ (puts-then _ _ _ (puts-then _ _ _ (puts-then _ _ _ (puts-then _ _ _ (puts-then _ _ _ (puts-then _ _ _ (puts-then _ _ _ (puts-then _ _ _ (c .before .before .before .before .before .before .before .before .before .before .before .before .before .before .before .before .before .text .ensures) (c .before .before .before .before .before .before .before .before .before .before .before .before .before .before .before .before .word .ensures)) (c .before .before .before .before .before .before .before .before .before .before .before .before .before .before .text2 .ensures)) (c .before .before .before .before .before .before .before .before .before .before .before .before .before .byte .ensures)) (c .before .before .before .before .before .before .before .before .before .before .before .text3 .ensures)) (c .before .before .before .before .before .before .before .before .before .before .byte2 .ensures)) (c .before .before .before .before .before .before .before .before .text4 .ensures)) (c .before .before .before .before .before .before .before .word2 .ensures)) (c .before .before .before .before .before .text5 .ensures)) (c .before .before .before .before .word3 .ensures)) (c .before .before .text6 .ensures)) (c .byte3 .ensures))))  -- returns
+    (λ c. let k = c .before .before .before .before .before .before .before .before .before .before .before .before .before .before .before .before .before .before .before .args .c in rw (← c .before .to-byte .ensures) (puts-then _ _ _ (puts-then _ _ _ (puts-then _ _ (hexadecimalOf 4 (k .sp)) (puts-then _ _ _ (puts-then _ _ (hexadecimalOf 4 (k .x)) (puts-then _ _ _ (puts-then _ _ (hexadecimalOf 2 (k .b)) (puts-then _ _ _ (puts-then _ _ (hexadecimalOf 2 (k .a)) (puts-then _ _ _ (puts-then _ _ (hexadecimalOf 4 (k .pc)) (c .before .before .before .before .before .before .before .before .before .before .before .before .before .before .before .before .before .text .ensures) (c .before .before .before .before .before .before .before .before .before .before .before .before .before .before .before .before .word .ensures)) (c .before .before .before .before .before .before .before .before .before .before .before .before .before .before .text2 .ensures)) (c .before .before .before .before .before .before .before .before .before .before .before .before .before .byte .ensures)) (c .before .before .before .before .before .before .before .before .before .before .before .text3 .ensures)) (c .before .before .before .before .before .before .before .before .before .before .byte2 .ensures)) (c .before .before .before .before .before .before .before .before .text4 .ensures)) (c .before .before .before .before .before .before .before .word2 .ensures)) (c .before .before .before .before .before .text5 .ensures)) (c .before .before .before .before .word3 .ensures)) (c .before .before .text6 .ensures)) (c .byte3 .ensures))))  -- returns

@@ -1,6 +1,6 @@
 use borrow.Author.Needs.{needs}
 use mathlib.Core.Path.{sym, ap, _∙_}
-use borrow.Author.Tests.{not-true, not-false}
+use borrow.Author.Tests.{not-true, not-false, ltb-true, ltb-false}
 use Rattle.cabinet.specs.Replies.{toldCheck}
 use Rattle.cabinet.proofs.Ends.{refuses-1, refuses-2, refuses-3, session-decides}
 use Rattle.cabinet.proofs.admit.Statement.{statement}
@@ -10,10 +10,10 @@ pub admit-spec : {M : Type 1} → statement M
 admit-spec =
     tie.close
     (tie.spec
-    (λ c. let a = c .before .before .before .args in sym (refuses-1 (a .image .now) (a .m) (a .session .now) (a .n) (c .if1 .taken)))  -- returns
     (λ c κs. search needs)  -- in-ranges-requires
-    (λ c. let a = c .before .before .before .before .before .args in sym (refuses-2 (a .image .now) (a .m) (a .session .now) (a .n) (c .before .before .if1 .left) (sym (c .before .in-ranges .ensures) ∙ not-true _ (c .if2 .taken))))  -- returns-2
-    (λ c. let a = c .before .before .before .before .before .before .args in sym (refuses-3 (a .image .now) (a .m) (a .session .now) (a .n) (c .before .before .before .if1 .left) (sym (c .before .before .in-ranges .ensures) ∙ not-false _ (c .before .if2 .left)) (c .if3 .taken)))  -- returns-3
+    (λ c. let a = c .before .before .before .before .args in sym (refuses-1 (a .image .now) (a .m) (a .session .now) (a .n) (c .if1 .taken)))  -- returns
+    (λ c. let a = c .before .before .before .before .before .args in sym (refuses-2 (a .image .now) (a .m) (a .session .now) (a .n) (c .before .if1 .left) (sym (c .before .before .in-ranges .ensures) ∙ not-true _ (c .if2 .taken))))  -- returns-2
+    (λ c. let a = c .before .before .before .before .before .before .args in sym (refuses-3 (a .image .now) (a .m) (a .session .now) (a .n) (c .before .before .if1 .left) (sym (c .before .before .before .in-ranges .ensures) ∙ not-false _ (c .before .if2 .left)) (ltb-true 1000000000 (a .n) (c .if3 .taken))))  -- returns-3
     (λ c κs. search needs)  -- check-requires
     (λ c κs. search needs)  -- verdict-requires
-    (λ c. let a = c .before .before .before .before .before .before .before .before .args in c .verdict .ensures ∙ ap toldCheck (c .before .check .ensures) ∙ sym (session-decides (a .image .now) (a .m) (a .session .now) (a .n) (c .before .before .before .before .before .if1 .left) (sym (c .before .before .before .before .in-ranges .ensures) ∙ not-false _ (c .before .before .before .if2 .left)) (c .before .before .if3 .left))))  -- returns-4
+    (λ c. let a = c .before .before .before .before .before .before .before .before .args in c .verdict .ensures ∙ ap toldCheck (c .before .check .ensures) ∙ sym (session-decides (a .image .now) (a .m) (a .session .now) (a .n) (c .before .before .before .before .if1 .left) (sym (c .before .before .before .before .before .in-ranges .ensures) ∙ not-false _ (c .before .before .before .if2 .left)) (ltb-false 1000000000 (a .n) (c .before .before .if3 .left)))))  -- returns-4

@@ -1,3 +1,4 @@
+use native.Mathlib.Omega.{arith}
 use borrow.Author.Needs.{needs}
 use mathlib.Core.Path.{sym, ap, _∙_}
 use Rattle.cabinet.specs.Replies.{toldAdmission}
@@ -13,7 +14,7 @@ end-spec =
     (λ c κs. search needs)  -- admit-requires
     (λ c. search needs)  -- enum-known-admission
     (λ c. search needs)  -- enum-told
-    (λ c κs. let a = c .before .before .before .before .before .before .before .before .before .before .args in (start-fine (a .m) (c .before .before .before .before .before .before .start .ensures), admitted-within (a .image .now) (a .m) (a .session .now) (a .n) (sym (c .before .before .before .before .admit .ensures) ∙ ap toldAdmission (c .before .before .enum-told .given .1))))  -- run-requires
+    (λ c κs. let a = c .before .before .before .before .before .before .before .before .before .before .args in let h = admitted-within (a .image .now) (a .m) (a .session .now) (a .n) (sym (c .before .before .before .before .admit .ensures) ∙ ap toldAdmission (c .before .before .enum-told .given .1)) in (start-fine (a .m) (c .before .before .before .before .before .before .start .ensures), omega (arith, h)))  -- run-requires
     (λ c κs. search needs)  -- stopped-requires
     (λ c. search needs)  -- same-length
     (λ c. let a = c .before .before .before .before .before .before .before .before .before .args in refusal-ends (a .image .now) (a .m) (a .session .now) (a .n) (a .output .now) (c .before .before .before .admit .ensures) (c .before .before .before .before .before .start .ensures) (c .before .admission .given .1))  -- returns

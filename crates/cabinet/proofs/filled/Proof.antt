@@ -1,6 +1,5 @@
-use borrow.Author.Needs.{needs}
 use native.Mathlib.Omega.{arith}
-use mathlib.Core.Path.{sym}
+use mathlib.Core.Path.{refl, sym}
 use lib.Seq.{length-take-le, take-all}
 use Rattle.cabinet.proofs.filled.Statement.{statement}
 use Rattle.cabinet.proofs.filled.Tie as tie
@@ -9,6 +8,6 @@ pub filled-spec : {M : Type 1} → statement M
 filled-spec =
     tie.close
     (tie.spec
-    (λ c. sym (length-take-le _ _ (c .before .if1 .taken)))  -- slice-aggregate-result
-    (λ c. search needs)  -- returns
+    (λ c. sym (length-take-le _ _ (omega arith)))  -- slice-aggregate-result
+    (λ c. refl)  -- returns
     (λ c. sym (take-all (c .before .args .sent) (c .before .args .output .now) (omega arith))))  -- returns-2

@@ -13,4 +13,4 @@ run-leaping-spec =
     (λ c κs. search needs)  -- report-requires
     (λ c. search needs)  -- same-length
     (λ c. search needs)  -- same-length-2
-    (λ c. let e = c .before .before .before .before .before .before .end in (ap (λ (r : Ran). answered r (e .last .1 .0) (e .last .1 .1 .1 .1 .1 .0)) (c .report .ensures) ∙ ap answerAt (e .ensures), ap (λ (x : End). x .world .state .leaps .0) (e .ensures))))  -- returns
+    (λ c. let e = c .before .before .before .before .before .end in (ap (λ (r : Ran). answered r (e .last .1 .0) (e .last .1 .1 .1 .1 .1 .0)) (c .report .ensures) ∙ ap answerAt (e .ensures), ap (λ (x : End). x .world .state .leaps .0) (e .ensures))))  -- returns
