@@ -1,7 +1,6 @@
 -- The counts of a run are those of its boundaries, told one by one: its leaps are the longest stretches of waiting cycles, its
 -- entries and instructions the boundaries that took steps 4 and 6. Assumes nothing.
 use Prim.Native.Nat.{ℕ, _+_, _-_, _<_}
-use native.Mathlib.Omega.{arith}
 use mathlib.Core.Path.{_≡_, refl, sym, ap, subst, _∙_}
 use mathlib.Core.Bool.{Bool, true, false, not, cond, _&&_}
 use mathlib.Core.List.{List, [], _∷_, _++_}
@@ -20,7 +19,7 @@ use Rattle.boundary.specs.Boundary.{World, Ended, worldOf, endedOf, take
 use Rattle.boundary.specs.Start.{startWorld, ranOf}
 use Rattle.boundary.specs.Trace.{Taken, entry, waitingCycle, instruction, isEntry, isInstruction, stepBy, takenBy, Mark, markOf, Traced, marked, tracedTurn, traceOf, waits, countOf, leapsOf, entriesOf, instructionsOf}
 use Rattle.boundary.proofs.Picks.{cases}
-use Rattle.boundary.proofs.Feeding.{due, records-more, records-done, records-keep}
+use Rattle.boundary.proofs.Feeding.{same-more, same-done, apart, due, records-more, records-done, records-keep}
 use Rattle.boundary.proofs.Stretches.{leaps-none, lastWaits, last-snoc, opens, leaps-snoc, count-snoc}
 use Rattle.boundary.proofs.Runs.{Then, then-more, then-done, run-falls, run-more, run-done}
 
@@ -134,15 +133,6 @@ module _ (session : List ℕ) (n : ℕ) where
       by false =
           act-marked ms d false (worldOf r (w .image) (w .output))
           (record { counted = c; inside = records-inside session (w .image) (w .state) ∙ ap (λ (i : Bool). i && not d) (h .inside) ∙ rests (lastWaits ms) d })
-
-  same-more : {S R : Type 0} (s t : S) → _≡_ {A = Turn S R} (more s) (more t) → s ≡ t
-  same-more s t e = cc
-
-  same-done : {S R : Type 0} (s t : R) → _≡_ {A = Turn S R} (done s) (done t) → s ≡ t
-  same-done s t e = cc
-
-  apart : {S R : Type 0} (s : S) (r : R) → _≡_ {A = Turn S R} (more s) (done r) → ⊥
-  apart s r e = let z : _≡_ {A = ℕ} 0 1 = cc in omega arith
 
   -- a turn of the trace is a boundary
   traced-more : (x : Turn World Ended) (ms : List Mark) (m : Mark) (t : Traced) → marked x ms m ≡ more t → (x ≡ more (t .world)) × (ms ++ m ∷ [] ≡ t .marks)

@@ -12,11 +12,13 @@ use Rattle.machine.proofs.Ranges.{ranges-say, say-ranges}
 use Rattle.boundary.specs.Boundary.{World}
 use Rattle.boundary.specs.Start.{startWorld, ranOf}
 use Rattle.boundary.specs.Trace as trace
+use Rattle.boundary.specs.Tallies.{Tally, talliesOf, total}
 use Rattle.boundary.proofs.LeapBound.{leap-bound}
 use Rattle.boundary.proofs.Output.{filled-part}
 use Rattle.boundary.proofs.Kept.{image-length, cycles-bound}
 use Rattle.boundary.proofs.InRanges.{run-ranges}
 use Rattle.boundary.proofs.Trace.{counts-told}
+use Rattle.boundary.proofs.Tallies.{amounts-told}
 use Rattle.cabinet.specs.Replies.{Told}
 use Rattle.cabinet.specs.Answers.{End, Answer, answerAt, answerOf, leapsOf}
 use Rattle.cabinet.proofs.Ends.{end-cases, left-cases}
@@ -88,6 +90,19 @@ module _ (image : List ℕ) (m : Machine) (session : List ℕ) (n : ℕ) (output
       (λ (x : End). let s = x .world .state in (s .leaps .0 ≡ trace.leapsOf marks) × (s .entries .0 ≡ trace.entriesOf marks) × (s .instructions .0 ≡ trace.instructionsOf marks))
       (sym (admitted-end image m session n output h))
       (c .leaps, c .entries, c .instructions)
+
+  -- the cycles, the records used and the bytes sent are the sums of what the run's boundaries took, applied and sent
+  pub amounts-left : Admitted image m session n output
+      → let a = answerOf image m session n output in
+      let tallies = talliesOf session n (startWorld m image output) in
+      (a .cycles ≡ total (λ (t : Tally). t .cycles) tallies) × (a .used ≡ total (λ (t : Tally). t .records) tallies) × (a .sent ≡ total (λ (t : Tally). t .bytes) tallies)
+  amounts-left h =
+      let c = amounts-told session n m image output in
+      let tallies = talliesOf session n (startWorld m image output) in
+      subst
+      (λ (x : End). let s = x .world .state in (s .cycles .0 ≡ total (λ (t : Tally). t .cycles) tallies) × (s .used .0 ≡ total (λ (t : Tally). t .records) tallies) × (s .sent .0 ≡ total (λ (t : Tally). t .bytes) tallies))
+      (sym (admitted-end image m session n output h))
+      (c .cycles, c .used, c .sent)
 
 -- the filled part: as long as the sent count, and all of the output where that is larger
 pub filled-long : (output : List ℕ) (sent : ℕ) → sent ≤ length output → length (take sent output) ≡ sent
