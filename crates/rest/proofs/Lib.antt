@@ -3,4 +3,6 @@ pub mod Places
 pub mod Laws
 pub mod Given
 pub mod Settled
+pub mod Matched
+pub mod Raised
 pub mod Worked
