@@ -5,7 +5,7 @@ use Prim.Native.String.{String}
 use Prim.Native.String as string
 use mathlib.Core.List.{List, [], _∷_, _++_}
 use mathlib.Core.Bool.{cond}
-use lib.ListN.{set, replicate}
+use lib.ListN.{set, take, replicate}
 use lib.Dec.{ltb}
 use Rattle.printing.specs.declared.Line.{Line}
 
@@ -24,6 +24,10 @@ putOf l b = record { bytes = set (l .bytes) (l .length) b; length = (l .length +
 unfoldable pub putsOf : Line → List ℕ → Line
 putsOf l [] = l
 putsOf l (b ∷ bs) = putsOf (putOf l b) bs
+
+-- the text that a line shows
+abbrev pub shown : Line → List ℕ
+shown l = take (l .length) (l .bytes)
 
 -- the sign of a digit: 0 to 9, then A to F
 abbrev pub digitOf : ℕ → ℕ
