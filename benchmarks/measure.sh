@@ -26,5 +26,5 @@ for workload in "$@"; do
     -v ps="$plain_s" -v pt="$plain_t" -v os="$ours_s" -v ot="$ours_t" 'BEGIN {
       pd = pt - ps; od = ot - os
       printf "%-12s %11d %11d | %12.1f %12.1f %7.2f | %12.2f %12.2f | %9.3f %9.3f %7s\n", w, k, n, p / n, o / n, o / p, p / k, o / k, pd, od,
-        pd > 0 ? sprintf("%.2f", od / pd) : "-" }'
+        (pd > 0 ? sprintf("%.2f", od / pd) : "-") }'
 done
