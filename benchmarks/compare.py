@@ -21,6 +21,7 @@ BATCH = 65536
 UNDEFINED = bytes.fromhex("0002031213141518 1A1C1D1E1F 4142454B4E 515255 5B5E 6162656B 7172757B 878FC7CDCF")
 DEFINED = [op for op in range(256) if op not in UNDEFINED]
 ONE_BYTE = [op for op in DEFINED if op < 0x20 or 0x30 <= op < 0x60]
+RARE = (0x39, 0x3B, 0x3E, 0x35, 0x6E, 0xAD, 0x9D, 0x9E, 0xAE, 0xBE)  # RTS, RTI, WAI, TXS, JMP and JSR far away, LDS
 REGISTERS = [0x00, 0x01, 0x02, 0x03, 0x08, 0x09, 0x0A, 0x0B, 0x0C, 0x0D, 0x0E, 0x10, 0x11, 0x12, 0x13, 0x14]
 
 
@@ -43,11 +44,16 @@ def run_record(limit, read_only):
 class Code:
     """Random code around the address $pppp, so that a stack full of the byte p leads back into it."""
 
-    def __init__(self, r):
+    def __init__(self, r, limit, read_only):
         self.r = r
-        self.page = r.choice([0x21, 0x30, 0x40, 0x57, 0x9B, 0xC6, 0xE0, 0xF0])
+        self.limit = limit
+        self.read_only = read_only
+        self.page = r.choice([0x20, 0x30, 0x40, 0x57, 0x8B, 0x9B, 0xC6, 0xE0, 0xF0])
         self.start = self.page * 257 - r.choice([0, 1, 100, 200])
-        self.size = r.choice([300, 600, 1500])
+        self.size = r.choice([100, 300, 600, 1500])
+        self.wild = r.choice([0, 0, 0, 0.01, 0.1])  # how much of it leads nowhere
+        self.devices = r.choice([0.05, 0.3, 0.7])
+        self.daring = r.choice([0, 0, 0.02, 0.2])
 
     def inside(self):
         return self.start + self.r.randrange(self.size)
@@ -56,97 +62,198 @@ class Code:
         """An address that an operand may well have."""
         r = self.r
         return r.choice([
-            r.choice(REGISTERS), r.choice(REGISTERS), r.choice(REGISTERS), r.randrange(0x20), r.randrange(0x80, 0x100),
-            r.randrange(0x80, 0x100), r.choice([0x1F, 0x20, 0x7F, 0x80, 0xFF, 0x100, 0xFFFF, 0]), self.inside(), r.randrange(65536)])
+            r.choice(REGISTERS), r.choice(REGISTERS), r.randrange(0x20), r.randrange(0x80, 0x100), r.randrange(0x80, 0x100),
+            r.choice([0x1F, 0x20, 0x7F, 0x80, 0xFF, 0x100, 0xFFFF, 0]), r.randrange(0x200, 0x300), self.inside(),
+            self.read_only + r.choice([-2, -1, 0, 1]), r.randrange(65536)])
 
-    def value(self):
-        r = self.r
-        return r.choice([r.randrange(256), r.choice([0, 1, 0x7F, 0x80, 0x81, 0xFF, 0x99, 0x9A]), r.choice([0x08, 0x1F, 0x1E, 0x02, 0x0A, 0x1A])])
+    def corner(self):
+        return self.r.choice([self.r.randrange(256), self.r.choice([0, 1, 0x0A, 0x0F, 0x10, 0x7F, 0x80, 0x81, 0x90, 0x99, 0x9A, 0xA0, 0xFE, 0xFF])])
 
     def instruction(self):
-        """A defined instruction with an operand that leads somewhere."""
+        """The bytes of a defined instruction; a jump or branch is its opcode alone, and finds its target later."""
         r = self.r
         op = r.choice(DEFINED)
-        if op in (0x39, 0x3B, 0x3E, 0x3F) and r.random() < 0.7:  # RTS, RTI, WAI, SWI more rarely
+        if op in RARE and r.random() < 0.8:
             op = r.choice(ONE_BYTE)
         row, low = op >> 4, op & 15
-        if op < 0x20 or 0x30 <= op < 0x60:
+        if row < 2 or 3 <= row < 6:
             return bytes([op])
-        if row == 2 or op == 0x8D:
-            return bytes([op, r.choice([r.randrange(0, 12), r.randrange(244, 256), r.randrange(256)])])
-        if row == 7 or row in (0xB, 0xF):
-            to = self.inside() if op in (0x7E, 0xBD) and r.random() < 0.9 else self.place()
-            return bytes([op]) + big(to)
+        if row == 2 or op in (0x8D, 0x7E, 0xBD):
+            return bytes([op, r.randrange(256)] + [r.randrange(256)] * (op in (0x7E, 0xBD))) if r.random() < self.wild else op
+        if row in (7, 0xB, 0xF):
+            return bytes([op]) + big(self.place())
+        if op == 0x8E:
+            return bytes([op]) + big(r.randrange(0x88, 0x100) if r.random() < 0.9 else self.place())
+        if row in (8, 0xC) and low in (3, 0xC, 0xE):
+            return bytes([op]) + big(r.choice([self.place(), self.inside(), 256 * self.corner() + self.corner()]))
         if row in (8, 0xC):
-            if low in (3, 0xC, 0xE):
-                return bytes([op]) + big(r.choice([self.place(), self.inside(), r.randrange(65536)]))
-            return bytes([op, self.value()])
+            return bytes([op, self.corner()])
         if row in (9, 0xD):
             return bytes([op, self.place() & 255])
-        return bytes([op, r.choice([0, 1, 8, 0x11, self.value()])])
+        return bytes([op, r.choice([0, 1, 8, 0x11, self.corner()])])
+
+    def operation(self):
+        """Arithmetic on chosen values, with chosen codes before it."""
+        r = self.r
+        codes = bytes([0x86, r.randrange(256) | 0x10, 0x06])
+        values = bytes([0xCC, self.corner(), self.corner(), 0xCE, self.corner(), self.corner()])
+        low = r.choice([0, 1, 2, 4, 5, 6, 8, 9, 10, 11])
+        return values + r.choice([
+            lambda: bytes([r.choice([0x80, 0xC0]) + low, self.corner()]), lambda: bytes([r.choice([0x83, 0xC3, 0x8C]), self.corner(), self.corner()]),
+            lambda: bytes([r.choice([op for op in ONE_BYTE if op < 0x20 or op >= 0x40] + [0x19] * 8 + [0x3D, 0x3A, 0x30])]),
+            lambda: codes + bytes([0xCC, self.corner(), self.corner(), r.choice([op for op in ONE_BYTE if op >= 0x40] + [0x19] * 8)]),
+            lambda: bytes([r.choice([0x8B, 0x89, 0x80]), self.corner(), 0x19])])()
 
     def device(self):
         """A few instructions about the timer, the serial interface, the ports or an interrupt."""
         r = self.r
+        at = r.choice(REGISTERS)
         store = lambda v, at: bytes([0x86, v & 255, 0x97, at])
+        soon = bytes([0xDC, 0x09, 0xC3]) + big(r.randrange(40)) + bytes([0xDD, 0x0B])
+        edge = self.read_only + r.choice([-1, 0, 1])
+        memory = r.choice([0x04, 0x05, 0x06, 0x07, 0x0B, 0x0C, 0x0F])
+        if r.random() < self.daring:
+            return r.choice([
+                lambda: bytes([0x3E]), lambda: bytes([0x0E, 0x3E]), lambda: bytes([0x8E]) + big(r.randrange(0x20)), lambda: bytes([0x9D, 0x12]),
+                lambda: bytes([0x3B]), lambda: 0x7E, lambda: store(0x19, 0x11) + bytes([0x9D, 0x11, 0xD7, 0x13]), lambda: bytes([0xCC, 0x39, 0x39, 0xDD, at, 0x9D, at])])()
         return r.choice([
-            lambda: store(r.randrange(256), 0x08), lambda: store(r.choice([0x08, 0x0C, 0x1C, 0x1F, 0x04]), 0x08),
-            lambda: store(r.randrange(256), 0x11), lambda: store(r.choice([0x02, 0x0A, 0x1A, 0x1E, 0x06, 0x18, 0x0B]), 0x11),
-            lambda: store(r.randrange(4), 0x10), lambda: store(r.randrange(256), 0x13), lambda: bytes([0x96, 0x11, 0x97, 0x13]),
+            # the timer
+            lambda: store(r.randrange(256), 0x08), lambda: store(r.choice([0x08, 0x0C, 0x1C, 0x1F, 0x04, 0x01]), 0x08), lambda: soon,
             lambda: bytes([0x96, 0x08, 0xDC, 0x0B, 0xC3]) + big(r.choice([5, 20, 100, 1000])) + bytes([0xDD, 0x0B]),
-            lambda: bytes([0xDC, 0x09, 0xC3]) + big(r.randrange(40)) + bytes([0xDD, 0x0B]),
-            lambda: bytes([0x97, 0x09]), lambda: bytes([0xDC, 0x08]), lambda: bytes([0x96, 0x08, 0xDC, 0x0D]),
-            lambda: bytes([0x96, 0x11, 0xD6, 0x12]), lambda: store(r.randrange(256), r.choice([0, 1, 2, 3])),
-            lambda: bytes([0x0E]), lambda: bytes([0x0E, 0x3E]), lambda: bytes([0x3E]), lambda: bytes([0x8E]) + big(self.place()),
-            lambda: bytes([0xCE]) + big(self.place()), lambda: bytes([r.choice([0x60, 0x63, 0x64, 0x68, 0x6A, 0x6C, 0x6D, 0x6F]), r.randrange(0x20)]),
-            lambda: bytes([0x7E]) + big(self.inside()), lambda: bytes([0x3B]),
+            lambda: store(r.randrange(256) | 2, 1) + store(r.randrange(8), 8) + soon + bytes([1] * 9 + [0xD6, 0x03]),
+            lambda: bytes([0x97, 0x09]), lambda: bytes([0xDC, 0x08]), lambda: bytes([0x96, 0x08, 0xDC, 0x0D]), lambda: bytes([0x96, 0x08, 0x96, 0x0E]),
+            lambda: bytes([0x96, 0x08, 0x97, r.choice([0x0B, 0x0C]), 0xD6, 0x08]), lambda: bytes([0xD7, r.choice([0x0B, 0x0C]), 0x96, 0x08]),
+            lambda: bytes([0x97, 0x09, 1, 1, 1]) + store(0x19, 0x08) + bytes([0x9D, 0x08, 0xDC, 0x09]) if self.daring else bytes([0x97, 0x09]),
+            lambda: store(0x08, 0x08) + soon + bytes([0x0E, 0x3E]),
+            # the serial interface
+            lambda: store(r.randrange(256), 0x11), lambda: store(r.choice([0x02, 0x0A, 0x1A, 0x1E, 0x06, 0x18, 0x08, 0x08, 0x0B, 0x09]), 0x11),
+            lambda: store(r.choice([0, 0, 1, 2, 3]), 0x10), lambda: store(r.randrange(256), 0x13), lambda: bytes([0x96, 0x11, 0x97, 0x13]),
+            lambda: bytes([0x96, 0x11, 0xD6, 0x12, 0x96, 0x11]), lambda: bytes([0xD6, 0x12]), lambda: bytes([0x96, 0x11]),
+            lambda: bytes([0x7F, 0, 0x11, 0x97, 0x13]) + store(2, 0x11),
+            # ports, RAM control, any register
+            lambda: store(r.randrange(256), r.choice([0, 1, 2, 3, 0x14, 0x14])), lambda: bytes([0x96, at]), lambda: bytes([0xD6, r.choice([2, 3, 0x14])]),
+            lambda: bytes([r.choice([0x70, 0x73, 0x74, 0x78, 0x7A, 0x7C, 0x7D, 0x7F, 0x7F]), 0, at]),
+            lambda: bytes([0xCC, 0x39, 0x39, 0xDD, memory, 0x9D, memory]) if memory < self.read_only else bytes([0xDD, memory]),
+            lambda: bytes([0xCE]) + big(at) + bytes([r.choice([0x60, 0x63, 0x64, 0x68, 0x6A, 0x6C, 0x6D, 0x6F]), 0]),
+            lambda: bytes([0x8E]) + big(at) + bytes([r.choice([0x36, 0x37, 0x3C, 0x32, 0x33, 0x38])] * r.choice([1, 1, 2]) + [0x8E, 0, 0xF0]),
+            lambda: bytes([0xB7]) + big(edge) + bytes([0xF6]) + big(edge), lambda: bytes([0x0E]), lambda: bytes([0x0F]),
         ])()
 
-    def body(self):
+    def some(self):
         r = self.r
-        devices = r.choice([0.1, 0.4, 0.8])
-        raw = r.choice([0, 0, 0.02, 0.3])
-        out = b""
-        while len(out) < self.size:
-            p = r.random()
-            out += bytes([r.randrange(256)]) if p < raw else self.device() if r.random() < devices else self.instruction()
-        return out[:self.size]
+        return self.device() if r.random() < self.devices else self.operation() if r.random() < 0.2 else self.instruction()
 
-    def folding(self):
-        """Folds $00 to $FF and some memory into the registers, then stays: what the code before it did shows in the line."""
-        self.size = 200
+    def body(self):
+        """Code that goes anywhere, and where its instructions begin."""
         r = self.r
-        out = bytes([0x8E]) + big(r.choice([0xFF, 0x1FF, 0xF0]))
+        items = [bytes([1]) * (self.page * 257 - self.start)]
+        while sum(self.width(i) for i in items) < self.size:
+            items.append(bytes([r.randrange(256)]) if r.random() < self.wild / 4 else self.some())
+        starts, at = [], self.start
+        for i in items:
+            starts.append(at)
+            at += self.width(i)
+        out = b""
+        for at, i in zip(starts, items):
+            out += i if isinstance(i, bytes) else self.aimed(i, at, starts)
+        self.size = len(out)
+        return out + bytes([0x7E]) + big(r.choice(starts)), starts
+
+    @staticmethod
+    def width(item):
+        return len(item) if isinstance(item, bytes) else 3 if item in (0x7E, 0xBD) else 2
+
+    def aimed(self, op, at, starts):
+        if op in (0x7E, 0xBD):
+            return bytes([op]) + big(self.r.choice(starts))
+        return bytes([op, (self.r.choice([s for s in starts if -128 <= s - at - 2 <= 127]) - at - 2) & 255])
+
+    def probes(self):
+        """Looks at what a reset left, in any order."""
+        r = self.r
+        every = ["9614", "86029701D603", "86FF9700D602", "D7139611", "DC0D", "9612", "DC0B", "DC09", "D70B9608", "DE03", "9D0F", "86029711", "9611"]
+        return [bytes.fromhex(one) for one in r.sample(every, r.randrange(6)) if one != "9D0F" or r.random() < self.daring]
+
+    def straight(self, between):
+        r = self.r
+        out = bytes([0x8E]) + big(r.choice([0xFF, 0xF0] + [0x1FF] * (self.read_only > 0x1FF)))
+        out += b"".join(probe + between for probe in self.probes())
+        out += bytes([0x86, r.choice([0x08, 0x08, 0x18, 0x09, 0x0A]), 0x97, 0x11]) * r.choice([0, 1, 1])
         while len(out) < self.size:
-            out += self.device() if r.random() < 0.4 else self.instruction()
-        fold = lambda first, past: bytes([0xCE]) + big(first) + bytes([0xE8, 0, 0x59, 0xA9, 0, 0x49, 8, 0x8C]) + big(past) + bytes([0x26, 0xF5])
-        out += bytes([0x0F]) + fold(0, 0x140) + fold(self.start, self.start + len(out)) + bytes([0xDE, 0x80, 0x20, 0xFE])
+            item = self.some()
+            if not isinstance(item, bytes):
+                item = bytes([item, 0]) if self.width(item) == 2 else b""
+            if not (item and item[0] in RARE) or r.random() < self.daring:
+                out += item + between
         return out
+
+    def handlers(self):
+        """A handler that answers every cause that a program can answer, and for each vector a way into it that is marked in $00F9."""
+        at = self.start - 192
+        move = bytes([0xDC, 0x0B, 0xC3]) + big(self.r.choice([30, 200, 3000])) + bytes([0xDD, 0x0B])
+        answer = bytes([0x96, 0x08]) + move + bytes([0x96, 0x09, 0x96, 0x0D, 0x96, 0x11, 0x97, 0x13, 0x96, 0x12, 0x3B])
+        ways = [bytes([0xD6, 0xF9, 0x58, 0xCB, cause, 0xD7, 0xF9, 0x7E]) + big(at) for cause in (1, 3, 5, 7, 11, 13, 17)]
+        return load(at, answer.ljust(50, bytes([1])) + b"".join(ways)), [at + 50 + 10 * i for i in range(7)]
+
+    def folded(self):
+        """Goes straight on, then folds $00 to $2FF and itself into the registers and waits, so that what it did shows in the line."""
+        out = self.straight(b"")
+        fold = lambda first, past: bytes([0xCE]) + big(first) + bytes([0xE8, 0, 0x59, 0xA9, 0, 0x49, 8, 0x8C]) + big(past) + bytes([0x26, 0xF4])
+        out += bytes([0x0F]) + fold(0, self.r.choice([0x140, 0x300])) + fold(self.start, self.start + len(out)) + bytes([0xDE, 0x80, 0x3E])
+        self.size = len(out)
+        return out
+
+    def traced(self):
+        """Goes straight on, after each instruction folds all registers and codes into $00F8, and at the end waits with that in X."""
+        self.size = min(self.size, 600)
+        turn = b"".join(bytes([0xE3, i, 0x58, 0x49, 0xC9, 0]) for i in (0, 2, 3))
+        fold = bytes.fromhex("36373C073630DCF8") + turn + bytes.fromhex("DDF8320638333239")
+        out = self.straight(bytes([0xBD]) + big(self.start - 64)) + bytes([0x0F, 0xDE, 0xF8, 0x3E])
+        self.size = len(out)
+        return fold, out
+
+    def sender(self):
+        """Sends without end, so that the output has no room at last."""
+        head = bytes([0x86, self.r.choice([0x02, 0x02, 0x06, 0x0A]), 0x97, 0x11])
+        between = bytes(self.r.choice([0x01, 0x08, 0x4C, 0x5A, 0x36, 0x32]) for _ in range(self.r.randrange(20)))
+        return head + bytes([0x96, 0x11, 0xD7, 0x13]) + between + bytes([0x7E]) + big(self.start + len(head))
 
     def loads(self):
         r = self.r
-        code = self.folding() if r.random() < 0.4 else self.body()
-        data = load(self.start, code)
-        if r.random() < 0.8:
-            data += load(0x80, bytes([self.page]) * 128)
-        if r.random() < 0.3:
-            data += load(0x00, bytes(r.choice(DEFINED) for _ in range(0x80)))
+        way, starts, data = r.random(), [self.start], b""
+        if self.limit > 40000 and r.random() < 0.3:
+            code = self.sender()
+        elif way < 0.3:
+            code = self.folded()
+        elif way < 0.6:
+            fold, code = self.traced()
+            data += load(self.start - 64, fold)
+        else:
+            code, starts = self.body()
+        data += load(self.start, code)
+        if r.random() < 0.9:
+            data += load(0x20, bytes([self.page]) * 0xE3 + bytes([0x7E]) + big(self.start))
         if r.random() < 0.2:
+            data += load(0x00, bytes(r.choice(DEFINED) for _ in range(r.choice([0x20, 0x80]))))
+        if r.random() < 0.1:
             data += load(r.randrange(65000), bytes(r.randrange(256) for _ in range(r.randrange(1, 200))))
         if r.random() < 0.2:
             data += load(0xFF00, bytes(r.choice(DEFINED) for _ in range(200)))
-        vectors = b"".join(big(self.inside()) for _ in range(8))
-        if r.random() < 0.05:
+        if r.random() < 0.03:
             return data + load(0xFFF0, bytes(r.randrange(256) for _ in range(16)))
-        first = r.choice([self.start, self.start, self.inside(), r.randrange(0x20) if r.random() < 0.3 else self.start])
-        return data + load(0xFFF0, vectors[:14] + big(first))
+        first = r.randrange(0x20) if r.random() < 0.03 else r.choice([self.start, r.choice(starts)])
+        vectors = [r.choice(starts) for _ in range(7)]
+        if len(starts) == 1 or r.random() < 0.5:
+            more, vectors = self.handlers()
+            data += more
+        return data + load(0xFFF0, b"".join(map(big, vectors)) + big(first))
 
 
 def record(r, time):
-    kind = r.choice([1, 2, 2, 2, 3, 3, 4, 5, 5, 5, 6, 7 if r.random() < 0.2 else 5])
+    kind = r.choice([1, 2, 2, 2, 3, 4, 5, 5, 5, 6, 6, 7])
     payload = {
-        1: lambda: [r.randrange(256)], 2: lambda: [r.randrange(32)], 3: lambda: [r.randrange(2)], 4: lambda: [],
-        5: lambda: [r.randrange(256), r.random() < 0.8], 6: lambda: [], 7: lambda: []}[kind]()
+        1: lambda: [r.randrange(256)], 2: lambda: [r.randrange(32)], 3: lambda: [r.random() < 0.8], 4: lambda: [],
+        5: lambda: [r.choice([0x39, r.randrange(256)]), r.random() < 0.8], 6: lambda: [], 7: lambda: []}[kind]()
     return little(6 + len(payload), 2) + little(kind, 2) + little(time, 4) + bytes(int(b) for b in payload)
 
 
@@ -173,7 +280,7 @@ def spoiled(r, records):
     elif way == 2:
         one[4:8] = little(r.choice([0, 1, r.randrange(2 ** 32), 0xFFFFFFFF]), 4)
     elif way == 3:
-        one[-1] = r.randrange(256)
+        one[-1] = r.choice([0, 1, 2, 31, 32, 63, 255])
     elif way == 4:
         one[r.randrange(len(one))] = r.randrange(256)
     elif way == 5:
@@ -186,14 +293,14 @@ def spoiled(r, records):
 
 
 def made(r):
-    limit = r.choice([r.randrange(200), r.randrange(3000), r.randrange(3000), r.randrange(20000), r.randrange(150000) if r.random() < 0.3 else 500])
-    read_only = r.choice([65536, 65536, 57344, 0, r.randrange(65537), r.randrange(0x100), r.choice([4, 5, 6, 7, 8, 15, 16, 0x20, 0x80, 0xA0, 0x100])])
+    limit = r.choice([r.randrange(200), r.randrange(3000), r.randrange(20000), r.randrange(20000), r.randrange(150000) if r.random() < 0.3 else 500])
+    read_only = r.choice([65536, 65536, 57344, 0, r.randrange(65537), r.randrange(0x200, 0x300), r.randrange(0x100), r.choice([4, 5, 6, 7, 8, 15, 16, 0x20, 0x80, 0xA0, 0x100])])
+    head = Code(r, limit, read_only).loads()
     p = r.random()
     if p < 0.01:
         read_only = r.choice([65537, 2 ** 32 - 1, 2 ** 31])
     elif p < 0.02:
         limit = r.choice([1000000001, 2 ** 32 - 1])
-    head = Code(r).loads()
     if r.random() < 0.03:
         head = bytearray(head)
         for _ in range(r.randrange(1, 4)):
