@@ -21,7 +21,7 @@ BATCH = 65536
 UNDEFINED = bytes.fromhex("0002031213141518 1A1C1D1E1F 4142454B4E 515255 5B5E 6162656B 7172757B 878FC7CDCF")
 DEFINED = [op for op in range(256) if op not in UNDEFINED]
 ONE_BYTE = [op for op in DEFINED if op < 0x20 or 0x30 <= op < 0x60]
-RARE = (0x39, 0x3B, 0x3E, 0x35, 0x6E, 0xAD, 0x9D, 0x9E, 0xAE, 0xBE)  # RTS, RTI, WAI, TXS, JMP and JSR far away, LDS
+RARE = (0x39, 0x3B, 0x3E, 0x35, 0x9D, 0x9E, 0xAE, 0xBE)  # RTS, RTI, WAI, TXS, JSR to the registers, LDS
 REGISTERS = [0x00, 0x01, 0x02, 0x03, 0x08, 0x09, 0x0A, 0x0B, 0x0C, 0x0D, 0x0E, 0x10, 0x11, 0x12, 0x13, 0x14]
 
 
@@ -78,6 +78,8 @@ class Code:
         row, low = op >> 4, op & 15
         if row < 2 or 3 <= row < 6:
             return bytes([op])
+        if op in (0x6E, 0xAD) and r.random() >= self.wild:
+            return op
         if row == 2 or op in (0x8D, 0x7E, 0xBD):
             return bytes([op, r.randrange(256)] + [r.randrange(256)] * (op in (0x7E, 0xBD))) if r.random() < self.wild else op
         if row in (7, 0xB, 0xF):
@@ -136,7 +138,8 @@ class Code:
             lambda: bytes([0xCC, 0x39, 0x39, 0xDD, memory, 0x9D, memory]) if memory < self.read_only else bytes([0xDD, memory]),
             lambda: bytes([0xCE]) + big(at) + bytes([r.choice([0x60, 0x63, 0x64, 0x68, 0x6A, 0x6C, 0x6D, 0x6F]), 0]),
             lambda: bytes([0x8E]) + big(at) + bytes([r.choice([0x36, 0x37, 0x3C, 0x32, 0x33, 0x38])] * r.choice([1, 1, 2]) + [0x8E, 0, 0xF0]),
-            lambda: bytes([0xB7]) + big(edge) + bytes([0xF6]) + big(edge), lambda: bytes([0x0E]), lambda: bytes([0x0F]),
+            lambda: bytes([0xCC, 0, 0xF0, 0xDD, 0x90, 0xCE, 0, 0x50]) + r.choice([bytes([0x9E, 0x90]), bytes([0xAE, 0x40]), bytes([0xBE, 0, 0x90])]),
+            lambda: bytes([0xCE, 0, 0xF0, 0x35]), lambda: bytes([0xB7]) + big(edge) + bytes([0xF6]) + big(edge), lambda: bytes([0x0E]), lambda: bytes([0x0F]),
         ])()
 
     def some(self):
@@ -161,9 +164,12 @@ class Code:
 
     @staticmethod
     def width(item):
-        return len(item) if isinstance(item, bytes) else 3 if item in (0x7E, 0xBD) else 2
+        return len(item) if isinstance(item, bytes) else 5 if item in (0x6E, 0xAD) else 3 if item in (0x7E, 0xBD) else 2
 
     def aimed(self, op, at, starts):
+        if op in (0x6E, 0xAD):
+            offset = self.r.choice([0, 1, 0x80, 0xFF])
+            return bytes([0xCE]) + big(self.r.choice(starts) - offset) + bytes([op, offset])
         if op in (0x7E, 0xBD):
             return bytes([op]) + big(self.r.choice(starts))
         return bytes([op, (self.r.choice([s for s in starts if -128 <= s - at - 2 <= 127]) - at - 2) & 255])
@@ -190,7 +196,7 @@ class Code:
     def handlers(self):
         """A handler that answers every cause that a program can answer, and for each vector a way into it that is marked in $00F9."""
         at = self.start - 192
-        move = bytes([0xDC, 0x0B, 0xC3]) + big(self.r.choice([30, 200, 3000])) + bytes([0xDD, 0x0B])
+        move = bytes([0xDC, 0x0B, 0xC3]) + big(self.r.choice([30, 200, 3000] if self.limit <= 150000 else [2000, 40000, 65535])) + bytes([0xDD, 0x0B])
         answer = bytes([0x96, 0x08]) + move + bytes([0x96, 0x09, 0x96, 0x0D, 0x96, 0x11, 0x97, 0x13, 0x96, 0x12, 0x3B])
         ways = [bytes([0xD6, 0xF9, 0x58, 0xCB, cause, 0xD7, 0xF9, 0x7E]) + big(at) for cause in (1, 3, 5, 7, 11, 13, 17)]
         return load(at, answer.ljust(50, bytes([1])) + b"".join(ways)), [at + 50 + 10 * i for i in range(7)]
@@ -218,10 +224,22 @@ class Code:
         between = bytes(self.r.choice([0x01, 0x08, 0x4C, 0x5A, 0x36, 0x32]) for _ in range(self.r.randrange(20)))
         return head + bytes([0x96, 0x11, 0xD7, 0x13]) + between + bytes([0x7E]) + big(self.start + len(head))
 
+    def waiter(self):
+        """Sets the units up in some way, then waits again and again."""
+        r = self.r
+        set_up = bytes([0x8E, 0x00, 0xF0]) + b"".join(
+            bytes([0x86, v, 0x97, at]) for v, at in r.sample([
+                (r.choice([0x08, 0x0C, 0x1E, 0x1C, 0x00, 0x04]), 0x08), (r.choice([0x08, 0x18, 0x1A, 0x0A, 0x02, 0x19]), 0x11), (r.randrange(4), 0x10),
+                (r.randrange(256), 0x0B), (r.randrange(256), 0x0C), (0x02, 0x01)], r.randrange(1, 7)))
+        again = r.choice(["0E3E", "0E3E9611D713", "3E", "0E3ED603"])
+        return set_up + bytes.fromhex(again) + bytes([0x7E]) + big(self.start + len(set_up))
+
     def loads(self):
         r = self.r
         way, starts, data = r.random(), [self.start], b""
-        if self.limit > 40000 and r.random() < 0.3:
+        if self.limit > 150000 or way < 0.05:
+            code = self.waiter()
+        elif self.limit > 40000 and r.random() < 0.3:
             code = self.sender()
         elif way < 0.3:
             code = self.folded()
@@ -293,7 +311,7 @@ def spoiled(r, records):
 
 
 def made(r):
-    limit = r.choice([r.randrange(200), r.randrange(3000), r.randrange(20000), r.randrange(20000), r.randrange(150000) if r.random() < 0.3 else 500])
+    limit = r.randrange(3000000) if r.random() < 0.03 else r.choice([r.randrange(200), r.randrange(3000), r.randrange(20000), r.randrange(20000), r.randrange(150000) if r.random() < 0.3 else 500])
     read_only = r.choice([65536, 65536, 57344, 0, r.randrange(65537), r.randrange(0x200, 0x300), r.randrange(0x100), r.choice([4, 5, 6, 7, 8, 15, 16, 0x20, 0x80, 0xA0, 0x100])])
     head = Code(r, limit, read_only).loads()
     p = r.random()
@@ -350,8 +368,9 @@ def main():
             theirs = lines(plain, data)
             stop = b" ".join(line.split()[:2]).decode()
             stops[stop] = stops.get(stop, 0) + 1
-            if (done + k) % 50 == 0:
-                line = lines(one, data) if lines(one, data) != line else line
+            alone = lines(one, data) if (done + k) % 50 == 0 else line
+            if alone != line:
+                line = alone
             if line != theirs:
                 differ += 1
                 kept = WORK / f"differ-{seed}-{done + k}.in"
