@@ -32,7 +32,7 @@ count() {
   $qemu -plugin "$work/libicount.so" "$@" <"$count_from" 2>&1 >"$work/line" | sed -n 's/^insns //p'
 }
 
-# line FILE: what a program printed last under count; field NAME: a number of that line
+# field NAME: a number of the line that a program printed last under count
 field() { tr ' ' '\n' <"$work/line" | sed -n "/^$1\$/{n;p}"; }
 
 # seconds TIMES FILE PROGRAM ..: the least user time of so many runs; natively on x86-64, else under the same emulator
