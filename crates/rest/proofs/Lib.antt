@@ -5,4 +5,7 @@ pub mod Given
 pub mod Settled
 pub mod Matched
 pub mod Raised
+pub mod Further
+pub mod Second
+pub mod Compose
 pub mod Worked
