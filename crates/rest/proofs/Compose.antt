@@ -7,23 +7,27 @@ use mathlib.Core.Bool.{Bool}
 use mathlib.Core.Option.{none}
 use mathlib.Core.Path.{_≡_, refl, sym, ap, subst, _∙_}
 use lib.ListN.{length, take, drop}
+use lib.Seq.{take-append-seam}
 use Rattle.machine.specs.declared.Machine.{Machine}
 use Rattle.machine.proofs.Ranges.{ranges-say, say-ranges}
 use Rattle.boundary.specs.declared.Stop.{Stop}
 use Rattle.boundary.specs.declared.Stop.the-variants.{Limit, Undefined, Full}
-use Rattle.boundary.specs.Boundary.{World, Ended, runOf}
+use Rattle.boundary.specs.Boundary.{World, runOf}
 use Rattle.boundary.specs.Start.{startWorld, ranOf}
 use Rattle.boundary.proofs.Kept.{image-length}
 use Rattle.boundary.proofs.Output.{filled-part}
 use Rattle.boundary.proofs.InRanges.{run-ranges}
 use Rattle.cabinet.specs.Replies.{Told, told, toldStop}
-use Rattle.cabinet.specs.Answers.{End, endAt, endOf, Answer, answerAt, answerOf, leapsOf}
-use Rattle.cabinet.proofs.Ends.{Passed}
+use Rattle.cabinet.specs.declared.Ran.{Ran}
+use Rattle.cabinet.specs.Answers.{End, endAt, endOf, Answer, answerAt, answered, answerOf, leapsOf}
 use Rattle.cabinet.proofs.Exactly.{Admitted, admitted-end, reply-0}
+use Rattle.cabinet.proofs.Settled.{Single}
 use Rattle.rest.specs.Rest.{restOf}
 use Rattle.rest.specs.Joined.{joined}
-use Rattle.rest.proofs.Raised.{raised, Raises, apart-most}
-use Rattle.rest.proofs.Second.{pastOf, secondOf, restAfter, after-sound, runs-raise}
+use Rattle.rest.specs.Answers.{wrote, restAnswer, restBuffer}
+use Rattle.rest.proofs.Exactly.{rest-written}
+use Rattle.rest.proofs.Raised.{raised, apart-most}
+use Rattle.rest.proofs.Second.{pastOf, secondOf, restAfter, used-within, after-sound, after-short, runs-raise}
 
 -- the stop that tells 0
 limit-told : (k : Stop) → toldStop k ≡ told 0 none → k ≡ Limit
@@ -70,7 +74,7 @@ module _ (image : List ℕ) (m : Machine) (session : List ℕ) (n₁ n : ℕ) (o
   abbrev left : End
   left =
       let w = ranOf session n₁ m image output .world in
-      let e = runOf (restAfter session m image output n₁ n) (n - w .state .cycles .0) (secondOf w) in
+      let e = runOf (restAfter session m image output n₁) (n - w .state .cycles .0) (secondOf w) in
       endAt (toldStop (e .stop)) (e .world)
 
   module _ (h : Admitted image m session n₁ output) (l : n₁ ≤ n) (b : n ≤ 1000000000) where
@@ -83,27 +87,27 @@ module _ (image : List ℕ) (m : Machine) (session : List ℕ) (n₁ n : ℕ) (o
     left-end : again here ≡ left
     left-end =
         let w = ranOf session n₁ m image output .world in
-        admitted-end (w .image) (w .state .machine) (restAfter session m image output n₁ n) (n - w .state .cycles .0) (drop (w .state .sent .0) (w .output)) (
+        admitted-end (w .image) (w .state .machine) (restAfter session m image output n₁) (n - w .state .cycles .0) (drop (w .state .sent .0) (w .output)) (
           record {
             image-long = image-length session n₁ (startWorld m image output) ∙ h .0 .image-long;
             in-ranges = ranges-say _ (run-ranges session n₁ m image output (h .1) (say-ranges (m .chip .bus) (h .0 .in-ranges)));
             within = omega arith;
           },
-          after-sound session m image output n₁ n (h .1),
+          after-sound session m image output n₁ (h .1),
         )
 
     module _ (stopped : ranOf session n₁ m image output .stop ≡ Limit) where
       joined-here : answerAt whole ≡ joined (answerAt here) (answerAt left)
       joined-here =
           let w = ranOf session n₁ m image output .world in
-          let r = runs-raise session m image output n₁ n (h .1) l stopped in
+          let r = runs-raise session m image output n₁ (h .1) n l stopped in
           ap (λ (k : Stop). answerAt (endAt (toldStop k) (whole .world))) (r .0)
           ∙ joins (left .reply) (here .reply) (whole .world) w (left .world) (r .1 .leaps) (r .1 .inside) (r .1 .same) (filled-part session n₁ m image output .2)
 
       leaps-here : let k = here .world .state .leaps .0 + left .world .state .leaps .0 in
           (whole .world .state .leaps .0 ≤ k) × (k ≤ whole .world .state .leaps .0 + 1)
       leaps-here =
-          let r = runs-raise session m image output n₁ n (h .1) l stopped .1 in
+          let r = runs-raise session m image output n₁ (h .1) n l stopped .1 in
           let e = ap (λ (x : World). x .state .leaps .0) (r .same) in
           let low = r .apart .low in
           let most = apart-most (r .apart) in
@@ -126,20 +130,40 @@ module _ (image : List ℕ) (m : Machine) (session : List ℕ) (n₁ n : ℕ) (o
       let a = firstAnswer in
       leapsOf (a .image) (a .machine) (restOf session (a .used) (a .cycles)) (n - a .cycles) (drop (a .sent) (a .output))
 
-  module _ (l : n₁ ≤ n) (b : n ≤ 1000000000) (e : firstAnswer .reply ≡ told 0 none) where
+  module _ (e : firstAnswer .reply ≡ told 0 none) where
     admitted : Admitted image m session n₁ output
     admitted = reply-0 image m session n₁ output .0 e .0
 
+    -- the call `rest` gives the second run its session: it refuses nothing but a buffer that is too short, and one as long as the session
+    -- never is
+    abbrev Fits : List ℕ → ℕ → ℕ → Type 0
+    Fits buffer used cycles =
+        let r = restOf session used cycles in
+        (length r ≤ length session)
+        × (length r ≤ length buffer
+        → (restAnswer session used cycles buffer ≡ wrote (length r)) × (take (length r) (restBuffer session used cycles buffer) ≡ r))
+
+    pub rest-given : (buffer : List ℕ) → Fits buffer (firstAnswer .used) (firstAnswer .cycles)
+    rest-given buffer =
+        subst (λ (x : End). Fits buffer (x .world .state .used .0) (x .world .state .cycles .0)) (sym (admitted-end image m session n₁ output admitted)) (
+          after-short session m image output n₁ (admitted .1),
+          (λ l.
+              let r = restAfter session m image output n₁ in
+              let w = rest-written session _ _ buffer (admitted .1) (used-within session m image output n₁ (admitted .1)) l in
+              (w .0, ap (take (length r)) (w .1) ∙ take-append-seam r (drop (length r) buffer))),
+        )
+
+  module _ (l : n₁ ≤ n) (b : n ≤ 1000000000) (e : firstAnswer .reply ≡ told 0 none) where
     stopped : ranOf session n₁ m image output .stop ≡ Limit
-    stopped = limit-told (ranOf session n₁ m image output .stop) (ap (λ (x : End). x .reply) (sym (admitted-end image m session n₁ output admitted)) ∙ e)
+    stopped = limit-told (ranOf session n₁ m image output .stop) (ap (λ (x : End). x .reply) (sym (admitted-end image m session n₁ output (admitted e))) ∙ e)
 
     -- the two answers, joined, are the one run's
     pub compose : answerOf image m session n output ≡ joined firstAnswer secondAnswer
     compose =
-        subst (λ (x : End). answerOf image m session n output ≡ joined (answerAt x) (answerAt (again x))) (sym (admitted-end image m session n₁ output admitted))
-        (ap answerAt (whole-end admitted l b)
-        ∙ joined-here admitted l b stopped
-        ∙ ap (λ (x : End). joined (answerAt here) (answerAt x)) (sym (left-end admitted l b)))
+        subst (λ (x : End). answerOf image m session n output ≡ joined (answerAt x) (answerAt (again x))) (sym (admitted-end image m session n₁ output (admitted e)))
+        (ap answerAt (whole-end (admitted e) l b)
+        ∙ joined-here (admitted e) l b stopped
+        ∙ ap (λ (x : End). joined (answerAt here) (answerAt x)) (sym (left-end (admitted e) l b)))
 
     -- and so are their leaps, but that a wait across the cut may count twice
     pub compose-leaps : let leaps = leapsOf image m session n output in
@@ -147,8 +171,20 @@ module _ (image : List ℕ) (m : Machine) (session : List ℕ) (n₁ n : ℕ) (o
     compose-leaps =
         subst
         (λ (x : End). let k = x .world .state .leaps .0 + again x .world .state .leaps .0 in let leaps = leapsOf image m session n output in (leaps ≤ k) × (k ≤ leaps + 1))
-        (sym (admitted-end image m session n₁ output admitted))
-        (let p = ap (λ (x : End). x .world .state .leaps .0) (whole-end admitted l b) in
-        let q = ap (λ (x : End). x .world .state .leaps .0) (left-end admitted l b) in
-        let r = leaps-here admitted l b stopped in
+        (sym (admitted-end image m session n₁ output (admitted e)))
+        (let p = ap (λ (x : End). x .world .state .leaps .0) (whole-end (admitted e) l b) in
+        let q = ap (λ (x : End). x .world .state .leaps .0) (left-end (admitted e) l b) in
+        let r = leaps-here (admitted e) l b stopped in
         (omega (arith, p, q, r .0), omega (arith, p, q, r .1)))
+
+    -- the same of what the calls return: a run's report, with the image and the output that it leaves
+    pub calls-compose : (r₁ r₂ r : Ran) (i₁ o₁ i₂ o₂ i o : List ℕ)
+        → Single image m session n₁ output r₁ i₁ o₁
+        → Single i₁ (r₁ .machine) (restOf session (r₁ .used .0) (r₁ .cycles .0)) (n - r₁ .cycles .0) (drop (r₁ .sent .0) o₁) r₂ i₂ o₂
+        → Single image m session n output r i o
+        → answered r i o ≡ joined (answered r₁ i₁ o₁) (answered r₂ i₂ o₂)
+    calls-compose r₁ r₂ r i₁ o₁ i₂ o₂ i o p q u =
+        subst
+        (λ (a : Answer). answered r₂ i₂ o₂ ≡ answerOf (a .image) (a .machine) (restOf session (a .used) (a .cycles)) (n - a .cycles) (drop (a .sent) (a .output))
+        → answered r i o ≡ joined a (answered r₂ i₂ o₂))
+        (sym p) (λ v. u ∙ compose ∙ ap (joined firstAnswer) (sym v)) q

@@ -1,16 +1,15 @@
 -- A run that the limit stopped, and a run with a limit no lower: the second passes where the first stopped. Assumes nothing.
-use Prim.Native.Nat.{ℕ, _≤_, _<_}
+use Prim.Native.Nat.{ℕ, _≤_}
 use native.Mathlib.Omega.{arith}
 use mathlib.Core.List.{List}
-use mathlib.Core.Path.{_≡_, refl, sym, ap, subst, _∙_}
+use mathlib.Core.Path.{_≡_, refl, sym, subst, _∙_}
 use mathlib.Core.Bool.{Bool, true, false}
 use lib.Dec.{leb}
 use lib.ListN.{length}
 use borrow.Author.Tests.{leb-true, leb-false}
 use Rattle.turns.specs.Turn.{Turn, more, done}
-use Rattle.boundary.specs.declared.Stop.{Stop}
 use Rattle.boundary.specs.declared.Stop.the-variants.{Limit, Undefined, Full}
-use Rattle.boundary.specs.Boundary.{World, Ended, worldOf, endedOf, recordsOf, sendsOf, sentWorld, actOf, sendOf, boundaryOf, runOf}
+use Rattle.boundary.specs.Boundary.{World, Ended, worldOf, recordsOf, sendsOf, sentWorld, actOf, sendOf, boundaryOf, runOf}
 use Rattle.boundary.proofs.Picks.{cases}
 use Rattle.boundary.proofs.Cases.{at-limit, below-limit}
 use Rattle.boundary.proofs.Runs.{Then, act-cases, run-more, run-keeps}

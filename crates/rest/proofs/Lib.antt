@@ -3,6 +3,7 @@ pub mod Places
 pub mod Laws
 pub mod Given
 pub mod Settled
+pub mod Exactly
 pub mod Matched
 pub mod Raised
 pub mod Further

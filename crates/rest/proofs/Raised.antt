@@ -7,10 +7,10 @@ use mathlib.Core.List.{List, _++_}
 use mathlib.Core.Path.{_≡_, refl, sym, ap, subst, _∙_}
 use mathlib.Core.Bool.{Bool, true, false, cond}
 use lib.Dec.{leb, eqb}
-use lib.ListN.{length, set, length-append}
+use lib.ListN.{length, length-append}
 use borrow.Author.Tests.{le-leb, lt-leb, leb-true, leb-false}
 use Rattle.turns.specs.Turn.{Turn, more, done}
-use Rattle.session.specs.Session.{eventAt, nextAt, dueAt}
+use Rattle.session.specs.Session.{dueAt}
 use Rattle.session.proofs.Laws.{due-there}
 use Rattle.bus.specs.Units.{byteSent}
 use Rattle.machine.specs.declared.Machine.{Machine}
@@ -22,8 +22,7 @@ use Rattle.machine.specs.Interrupts.{pendingOf}
 use Rattle.machine.specs.Events.{appliedOf, onBus}
 use Rattle.machine.specs.Steps.{Stepped, enteredOf, stepOf}
 use Rattle.boundary.specs.declared.State.{State}
-use Rattle.boundary.specs.declared.Stop.the-variants.{Limit, Undefined, Full}
-use Rattle.boundary.specs.Boundary.{World, Ended, worldOf, endedOf, movedOf, takenOf, recordsOf, sendsOf, sentState, sentWorld, enteredWorld, waitedState, steppedWorld, executedOf, onPending, actOf, sendOf, boundaryOf, runOf}
+use Rattle.boundary.specs.Boundary.{World, Ended, worldOf, movedOf, takenOf, recordsOf, sendsOf, sentState, sentWorld, enteredWorld, waitedState, onPending, actOf, sendOf, boundaryOf, runOf}
 use Rattle.boundary.proofs.Feeding.{records-more, records-done, next-after}
 use Rattle.boundary.proofs.Runs.{Then, run-more, run-done, run-keeps}
 use Rattle.rest.proofs.Lists.{set-append-add}

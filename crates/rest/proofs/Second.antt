@@ -1,21 +1,19 @@
 -- The second run beside the one: after a run that its limit stopped, the run of what is left of a limit no lower, on the rest of the
 -- session and with the room that is left, is the one run from there on. Assumes nothing.
-use Prim.Native.Nat.{ℕ, _+_, _-_, _≤_, _<_}
+use Prim.Native.Nat.{ℕ, _+_, _-_, _≤_}
 use native.Mathlib.Nat.{add-zero}
 use native.Mathlib.Omega.{arith}
-use mathlib.Core.List.{List, [], _++_}
+use mathlib.Core.List.{List, []}
 use mathlib.Core.Option.{none}
 use mathlib.Core.Path.{_≡_, refl, sym, ap, subst, _∙_}
-use mathlib.Core.Bool.{Bool, true, false, cond}
+use mathlib.Core.Bool.{Bool, true, false}
 use lib.ListN.{length, take, drop, take-append-drop}
 use Rattle.session.specs.Session.{nextAt, checkOf}
 use Rattle.session.specs.declared.Checked.the-variants.{Sound}
 use Rattle.machine.specs.declared.Machine.{Machine}
-use Rattle.boundary.specs.declared.State.{State}
-use Rattle.boundary.specs.declared.Stop.{Stop}
-use Rattle.boundary.specs.declared.Stop.the-variants.{Limit, Undefined, Full}
-use Rattle.boundary.specs.Boundary.{World, Ended, worldOf, endedOf, takenOf, sentState, enteredWorld, waitedState, runOf}
-use Rattle.boundary.specs.Start.{startOf, startWorld, ranOf}
+use Rattle.boundary.specs.declared.Stop.the-variants.{Limit}
+use Rattle.boundary.specs.Boundary.{World, Ended, worldOf, takenOf, sentState, enteredWorld, waitedState, runOf}
+use Rattle.boundary.specs.Start.{startWorld, ranOf}
 use Rattle.boundary.proofs.Keeps.{Keeps, run-holds}
 use Rattle.boundary.proofs.Kept.{place-within}
 use Rattle.boundary.proofs.Output.{filled-part}
@@ -76,25 +74,27 @@ second-raised w e =
     (w .image) (sym (take-append-drop (x .sent .0) (w .output)) k)
 
 -- over the definition of a run
-module _ (session : List ℕ) (m : Machine) (image output : List ℕ) (n₁ n : ℕ) where
+module _ (session : List ℕ) (m : Machine) (image output : List ℕ) (n₁ : ℕ) where
   abbrev pub first : World
   first = ranOf session n₁ m image output .world
 
   abbrev pub restAfter : List ℕ
   restAfter = restOf session (first .state .used .0) (first .state .cycles .0)
 
+  used-there : placeOf session (first .state .used .0) ≡ first .state .place
+  unfolding placeOf
+  used-there = run-holds session n₁ (λ w. placeOf session (w .state .used .0) ≡ w .state .place) (placed session n₁) (startWorld m image output) refl
+
   rest-there : restFrom session (first .state .cycles .0) (first .state .place) [] ≡ restAfter
-  unfolding restOf placeOf
-  rest-there =
-      ap (λ (k : ℕ). restFrom session (first .state .cycles .0) k [])
-      (sym (run-holds session n₁ (λ w. placeOf session (w .state .used .0) ≡ w .state .place) (placed session n₁) (startWorld m image output) refl))
+  unfolding restOf
+  rest-there = ap (λ (k : ℕ). restFrom session (first .state .cycles .0) k []) (sym used-there)
 
   module _ (sound : checkOf session ≡ Sound) where
+    pub used-within : placeOf session (first .state .used .0) ≤ length session
+    used-within = rw used-there (place-within session n₁ m image output sound)
+
     place-there : SoundFrom session (first .state .place)
-    unfolding placeOf
-    place-there =
-        let e = run-holds session n₁ (λ w. placeOf session (w .state .used .0) ≡ w .state .place) (placed session n₁) (startWorld m image output) refl in
-        subst (SoundFrom session) e (place-sound session (first .state .used .0) sound (rw e (place-within session n₁ m image output sound)))
+    place-there = subst (SoundFrom session) used-there (place-sound session (first .state .used .0) sound used-within)
 
     pub after-sound : checkOf restAfter ≡ Sound
     after-sound = subst (λ (r : List ℕ). checkOf r ≡ Sound) rest-there (rest-sound session (first .state .cycles .0) (first .state .place) place-there)
@@ -106,6 +106,9 @@ module _ (session : List ℕ) (m : Machine) (image output : List ℕ) (n₁ n : 
         let e = rest-length session (first .state .cycles .0) (first .state .place) a in
         let f = ap length rest-there in
         omega arith
+
+    pub after-short : length restAfter ≤ length session
+    after-short = let l = after-long in omega arith
 
     second-starts : Raises session restAfter (pastOf first) (first .state .leaps .0) first (secondOf first)
     second-starts =
@@ -123,10 +126,10 @@ module _ (session : List ℕ) (m : Machine) (image output : List ℕ) (n₁ n : 
         starts leaps false = record { order = omega arith; low = omega arith; high = omega arith }
 
     -- the run of N is the run of the rest, with what the first run had done
-    pub runs-raise : n₁ ≤ n → ranOf session n₁ m image output .stop ≡ Limit
+    pub runs-raise : (n : ℕ) → n₁ ≤ n → ranOf session n₁ m image output .stop ≡ Limit
         → Ends session restAfter (pastOf first) (first .state .leaps .0)
         (ranOf session n m image output) (runOf restAfter (n - first .state .cycles .0) (secondOf first))
-    runs-raise l e =
+    runs-raise n l e =
         subst (λ (x : Ended). Ends session restAfter (pastOf first) (first .state .leaps .0) x (runOf restAfter (n - first .state .cycles .0) (secondOf first)))
         (sym (run-further session n₁ n l (startWorld m image output) e))
         (run-raised session restAfter (pastOf first) (first .state .leaps .0) after-long n first (secondOf first) second-starts)

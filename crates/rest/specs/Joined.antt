@@ -1,5 +1,5 @@
 -- Two runs as one: what the first answers and then what the second, which started from the first's machine and image, answers.
-use Prim.Native.Nat.{ℕ, _+_}
+use Prim.Native.Nat.{_+_}
 use mathlib.Core.List.{_++_}
 use lib.ListN.{take}
 use Rattle.cabinet.specs.Answers.{Answer}
