@@ -73,10 +73,13 @@ ranCall form l session n m =
     let a = answerOf (l .image) m session n (l .output) in
     reported form (a .reply) (countsOf a) (leapsOf (l .image) m session n (l .output)) (lent (a .image) (savedOf (a .machine)) (a .output) (l .result))
 
--- bytes outside the machine's ranges are refused as 01's table says, 1 before 2; any other refusal to load writes nothing
+-- a machine outside its ranges: 2, and "1, 2, 3 are tested in that order"
+abbrev pub unfitReply : List ℕ → ℕ
+unfitReply image = cond (eqb (length image) 65536) 2 1
+
+-- a refusal to load: 2 is refused as a run refuses it; any other writes nothing
 abbrev pub refusedCall : Form → Lent → ℕ → Called
-refusedCall form l k =
-    cond (eqb k 2) (reported form (told (cond (eqb (length (l .image)) 65536) 2 1) none) noCounts 0 l) (called k l)
+refusedCall form l k = cond (eqb k 2) (reported form (told (unfitReply (l .image)) none) noCounts 0 l) (called k l)
 
 abbrev pub onLoad : Form → Lent → List ℕ → ℕ → load.Given → Called
 onLoad form l session n (load.gives m) = ranCall form l session n m
@@ -87,8 +90,12 @@ abbrev pub runCall : ℕ → Form → Lent → List ℕ → ℕ → Called
 runCall size form l session n =
     cond (ltb (length (l .result)) size) (called 29 l) (onLoad form l session n (load.loadOf (l .machine)))
 
+-- the single run tells no leaps
+abbrev pub single : Form
+single t c leaps = singleBytes t c
+
 unfoldable pub singleCall : Lent → List ℕ → ℕ → Called
-singleCall = runCall 40 (λ t c leaps. singleBytes t c)
+singleCall = runCall 40 single
 
 unfoldable pub leapingCall : Lent → List ℕ → ℕ → Called
 leapingCall = runCall 44 leapingBytes

@@ -4,7 +4,7 @@ use machine::Power;
 use opcodes::Decoded;
 use saved::Loaded;
 ghost use mathlib.Core.Path.{_≡_};
-ghost use Rattle.board.specs.Board.{wrote, powerCall, askCall, lent, called, singleCall, leapingCall};
+ghost use Rattle.board.specs.Board.{wrote, powerCall, askCall, lent, called, unfitReply, singleCall, leapingCall};
 
 // Power-on into a saved machine.
 #[no_mangle]
@@ -45,7 +45,9 @@ pub extern "C" fn pliruzza_ask(opcode: u8, answer: &mut [u8]) -> u32
 }
 
 // The reply to a machine outside its ranges: the image is tested first.
-fn unfit(image: &[u8]) -> u32 {
+fn unfit(image: &[u8]) -> u32
+    ensures { λ r. ⌜ r ≡ unfitReply (now (image .entry)) ⌝ }
+{
     if image.len() == 65536 { 2 } else { 1 }
 }
 
