@@ -1,13 +1,10 @@
 -- The ways that each C call can end, as laws over plain variables. Assumes nothing.
 use Prim.Native.Nat.{ℕ, _≤_, _<_}
-use mathlib.Core.Bool.{Bool, true, false}
 use mathlib.Core.List.{List, []}
 use mathlib.Core.Option.{none}
-use mathlib.Core.Path.{_≡_, refl, sym, ap, _∙_}
-use native.Mathlib.Omega.{arith}
-use lib.Dec.{eqb}
+use mathlib.Core.Path.{_≡_, sym, ap, _∙_}
 use lib.ListN.{length}
-use borrow.Author.Tests.{eq-eqb, ne-eqb, lt-ltb, le-ltb, eqb-true}
+use borrow.Author.Tests.{eq-eqb, ne-eqb, lt-ltb, le-ltb}
 use Rattle.opcodes.specs.declared.Decoded.{Decoded}
 use Rattle.machine.specs.declared.Machine.{Machine}
 use Rattle.machine.specs.declared.Power.{Power}
@@ -17,7 +14,8 @@ use Rattle.cabinet.specs.Replies.{told, toldReply, toldPower, toldDecoded}
 use Rattle.cabinet.specs.Answers.{Answer, answered, answerOf, leapsOf, powerAnswer, opcodeAnswer}
 use Rattle.saved.specs.declared.Loaded.{Loaded}
 use Rattle.saved.specs.Layout.{savedOf}
-use Rattle.saved.specs.Answers.{leftOf, Given, gives, toldLoaded, loadOf}
+use Rattle.saved.specs.Answers.{leftOf, gives, toldLoaded, loadOf}
+use Rattle.saved.proofs.Exactly.{load-gives}
 use Rattle.results.specs.Bytes.{over}
 use Rattle.results.specs.Results.{countsOf, noCounts}
 use Rattle.board.specs.Board.{wrote, onPower, powerCall, onAsk, askCall, Lent, lent, Called, called, Form, reported, unfitReply, refusedCall, onLoad, runCall}
@@ -28,12 +26,7 @@ saved-over m machine h e = e ∙ picks _ _ (eq-eqb _ _ h)
 
 -- bytes that load are 42
 pub loaded-long : (bytes : List ℕ) (m : Machine) → loadOf bytes ≡ gives m → length bytes ≡ 42
-unfolding loadOf
-loaded-long bytes m = by (eqb (length bytes) 42) refl
-  where
-    by : (b : Bool) → eqb (length bytes) 42 ≡ b → loadOf bytes ≡ gives m → length bytes ≡ 42
-    by true e f = eqb-true _ _ e
-    by false e f = let z : _≡_ {A = ℕ} 0 1 = cc in absurd (let y : ⊥ = omega arith in y)
+loaded-long bytes m e = load-gives bytes m .0 e .0
 
 -- power-on
 module _ (image : List ℕ) (r : ℕ) (machine : List ℕ) where
