@@ -87,6 +87,10 @@ abbrev given : Given → Machine → Machine
 given (gives m) other = m
 given (replies k) other = other
 
+-- no answer has two numbers
+other : {A : Type 0} {j k : ℕ} → eqb j k ≡ false → j ≡ k → A
+other {j = j} {k} n e = absurd (true≢false (sym (eq-eqb j k e) ∙ n))
+
 module _ (l : List ℕ) where
   -- 26: "a wrong length"
   pub load-26 : (loadOf l ≡ replies 26) ↔ (length l ≡ 42 → ⊥)
@@ -94,10 +98,10 @@ module _ (l : List ℕ) where
     (λ e.
         load-cases (λ g. number g ≡ 26 → length l ≡ 42 → ⊥) l
         (λ n d. n)
-        (λ f n d. absurd (let z : ⊥ = omega (arith, d) in z))
-        (λ f v n d. absurd (let z : ⊥ = omega (arith, d) in z))
-        (λ f v s n d. absurd (let z : ⊥ = omega (arith, d) in z))
-        (λ f v s n d. absurd (let z : ⊥ = omega (arith, d) in z))
+        (λ f n d. other refl d)
+        (λ f v n d. other refl d)
+        (λ f v s n d. other refl d)
+        (λ f v s n d. other refl d)
         (ap number e)),
     wrong-length l,
   )
@@ -107,11 +111,11 @@ module _ (l : List ℕ) where
   load-27 = (
     (λ e.
         load-cases (λ g. number g ≡ 27 → (length l ≡ 42) × (wordAt l 0 ≡ 1 → ⊥)) l
-        (λ n d. absurd (let z : ⊥ = omega (arith, d) in z))
+        (λ n d. other refl d)
         (λ f n d. (f, n))
-        (λ f v n d. absurd (let z : ⊥ = omega (arith, d) in z))
-        (λ f v s n d. absurd (let z : ⊥ = omega (arith, d) in z))
-        (λ f v s n d. absurd (let z : ⊥ = omega (arith, d) in z))
+        (λ f v n d. other refl d)
+        (λ f v s n d. other refl d)
+        (λ f v s n d. other refl d)
         (ap number e)),
     (λ h. wrong-version l (h .0) (h .1)),
   )
@@ -121,11 +125,11 @@ module _ (l : List ℕ) where
   load-28 = (
     (λ e.
         load-cases (λ g. number g ≡ 28 → (length l ≡ 42) × (wordAt l 0 ≡ 1) × (Stands l → ⊥)) l
-        (λ n d. absurd (let z : ⊥ = omega (arith, d) in z))
-        (λ f n d. absurd (let z : ⊥ = omega (arith, d) in z))
+        (λ n d. other refl d)
+        (λ f n d. other refl d)
         (λ f v n d. (f, v, denied (say-stands l) n))
-        (λ f v s n d. absurd (let z : ⊥ = omega (arith, d) in z))
-        (λ f v s n d. absurd (let z : ⊥ = omega (arith, d) in z))
+        (λ f v s n d. other refl d)
+        (λ f v s n d. other refl d)
         (ap number e)),
     (λ h. no-machine l (h .0) (h .1) (denies (standsOf l) (stands-say l) (h .2))),
   )
@@ -135,11 +139,11 @@ module _ (l : List ℕ) where
   load-2 = (
     (λ e.
         load-cases (λ g. number g ≡ 2 → (length l ≡ 42) × (wordAt l 0 ≡ 1) × Stands l × (InRanges l → ⊥)) l
-        (λ n d. absurd (let z : ⊥ = omega (arith, d) in z))
-        (λ f n d. absurd (let z : ⊥ = omega (arith, d) in z))
-        (λ f v n d. absurd (let z : ⊥ = omega (arith, d) in z))
+        (λ n d. other refl d)
+        (λ f n d. other refl d)
+        (λ f v n d. other refl d)
         (λ f v s n d. (f, v, stands-say l s, denied (said-ranges l) n))
-        (λ f v s n d. absurd (let z : ⊥ = omega (arith, d) in z))
+        (λ f v s n d. other refl d)
         (ap number e)),
     (λ h. wrong-machine l (machineIn l) (h .0) (h .1) (say-stands l (h .2)) refl (denies (rangesIn l (machineIn l)) (ranges-said l) (h .3))),
   )
@@ -149,10 +153,10 @@ module _ (l : List ℕ) where
   load-gives m = (
     (λ e.
         load-cases (λ g. number g ≡ 0 → given g m ≡ m → (length l ≡ 42) × (wordAt l 0 ≡ 1) × Stands l × InRanges l × (m ≡ machineIn l)) l
-        (λ n d. absurd (let z : ⊥ = omega (arith, d) in z))
-        (λ f n d. absurd (let z : ⊥ = omega (arith, d) in z))
-        (λ f v n d. absurd (let z : ⊥ = omega (arith, d) in z))
-        (λ f v s n d. absurd (let z : ⊥ = omega (arith, d) in z))
+        (λ n d. other refl d)
+        (λ f n d. other refl d)
+        (λ f v n d. other refl d)
+        (λ f v s n d. other refl d)
         (λ f v s n d q. (f, v, stands-say l s, ranges-said l n, sym q))
         (ap number e)
         (ap (λ (g : Given). given g m) e)),

@@ -29,7 +29,6 @@ use Rattle.serial.specs.declared.Serial.{Serial}
 use Rattle.serial.specs.Serial.{trcsOf}
 use Rattle.bus.specs.declared.Bus.{Bus}
 use Rattle.bus.specs.Access.{ramControlOf}
-use Rattle.cpu.specs.declared.Chip.{Chip}
 use Rattle.machine.specs.declared.Machine.{Machine}
 
 -- the arms of three flags, in the places of the flags' own bits, 5 to 7
