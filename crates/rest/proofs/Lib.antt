@@ -1,0 +1,8 @@
+pub mod Lists
+pub mod Places
+pub mod Laws
+pub mod Given
+pub mod Settled
+pub mod Matched
+pub mod Raised
+pub mod Worked
