@@ -118,26 +118,69 @@ static int run_night(uint8_t *machine) {
     return 0;
 }
 
-/* Both runs of one slice from one start leave the same image, machine and output, and report the same. */
+/* A stretch of 20,000 cycles after the night: two bytes, and pins. */
+#define STRETCH 20000u
+static const uint8_t stretch[] = {
+    8, 0, 5, 0, 0xD0, 0x07, 0, 0, 'E', 1,  /* at 2,000 */
+    8, 0, 5, 0, 0xF8, 0x2A, 0, 0, 'F', 1,  /* at 11,000 */
+    7, 0, 1, 0, 0x98, 0x3A, 0, 0, 0xFE,    /* at 15,000 */
+};
+
+/* What a run is lent. */
+struct lent {
+    uint8_t image[PLIRUZZA_IMAGE], machine[PLIRUZZA_MACHINE], output[8], result[PLIRUZZA_LEAPING];
+};
+
+static void lend(struct lent *l, const uint8_t *machine) {
+    memset(l, 0, sizeof *l);
+    memcpy(l->image, image, sizeof image);
+    memcpy(l->machine, machine, PLIRUZZA_MACHINE);
+}
+
+static void run_leaping(struct lent *l, const uint8_t *session, size_t length, uint32_t n, size_t sent) {
+    pliruzza_run_leaping(l->image, PLIRUZZA_IMAGE, l->machine, PLIRUZZA_MACHINE, session, length, n, l->output + sent,
+                         sizeof l->output - sent, l->result, PLIRUZZA_LEAPING);
+}
+
+static const char *alike(const struct lent *a, const struct lent *b) {
+    return memcmp(a->image, b->image, PLIRUZZA_IMAGE) || memcmp(a->machine, b->machine, PLIRUZZA_MACHINE)
+                   || memcmp(a->output, b->output, sizeof a->output)
+               ? "DIFFER"
+               : "alike";
+}
+
+/* Both runs of the stretch from one start, and the leaping run of it in two slices, of which the first stops within the
+ * first byte's handler: 4 + 3 + 3 cycles after 2,000, two late. They leave the same image, machine and output. */
 static void compare_runs(const uint8_t *machine) {
-    static uint8_t images[2][PLIRUZZA_IMAGE];
-    static const uint8_t session[] = {8, 0, 5, 0, 0x10, 0x27, 0, 0, 'E', 1};
-    uint8_t machines[2][PLIRUZZA_MACHINE], outputs[2][4] = {{0}};
-    uint8_t single[PLIRUZZA_SINGLE], leaping[PLIRUZZA_LEAPING];
-    for (int i = 0; i < 2; i++) {
-        memcpy(images[i], image, sizeof image);
-        memcpy(machines[i], machine, PLIRUZZA_MACHINE);
-    }
-    pliruzza_run_single(images[0], PLIRUZZA_IMAGE, machines[0], PLIRUZZA_MACHINE, session, sizeof session, 20000,
-                        outputs[0], 4, single, sizeof single);
-    pliruzza_run_leaping(images[1], PLIRUZZA_IMAGE, machines[1], PLIRUZZA_MACHINE, session, sizeof session, 20000,
-                         outputs[1], 4, leaping, sizeof leaping);
-    int alike = !memcmp(images[0], images[1], PLIRUZZA_IMAGE) && !memcmp(machines[0], machines[1], PLIRUZZA_MACHINE)
-                && !memcmp(outputs[0], outputs[1], 4) && !memcmp(single, leaping, PLIRUZZA_SINGLE);
-    printf("single and leaping %s", alike ? "alike" : "DIFFER");
-    show_bytes("result", single, PLIRUZZA_SINGLE);
-    show_bytes("leaps", leaping + PLIRUZZA_SINGLE, 4);
+    static struct lent single, leaping, sliced;
+    uint8_t rest[sizeof stretch], told[8];
+    lend(&single, machine);
+    lend(&leaping, machine);
+    lend(&sliced, machine);
+    pliruzza_run_single(single.image, PLIRUZZA_IMAGE, single.machine, PLIRUZZA_MACHINE, stretch, sizeof stretch, STRETCH,
+                        single.output, sizeof single.output, single.result, PLIRUZZA_SINGLE);
+    run_leaping(&leaping, stretch, sizeof stretch, STRETCH, 0);
+    printf("single and leaping %s", alike(&single, &leaping));
+    show_bytes("results", single.result, PLIRUZZA_LEAPING);
+    show_bytes("and", leaping.result, PLIRUZZA_LEAPING);
     printf("\n");
+    run_leaping(&sliced, stretch, sizeof stretch, 2008, 0);
+    uint32_t cycles = (uint32_t)number_at(sliced.result + 4, 4);
+    size_t used = (size_t)number_at(sliced.result + 16, 8), sent = (size_t)number_at(sliced.result + 24, 8);
+    uint32_t reply = pliruzza_rest(stretch, sizeof stretch, used, cycles, rest, sizeof rest, told, sizeof told);
+    printf("after %u cycles: rest %u of %u bytes,", (unsigned)cycles, (unsigned)reply, (unsigned)number_at(told, 8));
+    run_leaping(&sliced, rest, (size_t)number_at(told, 8), STRETCH - cycles, sent);
+    printf(" then %u cycles, %s\n", (unsigned)number_at(sliced.result + 4, 4), alike(&sliced, &leaping));
+}
+
+static void refuse_rest(size_t length, size_t used, size_t rest_length, size_t told_length) {
+    uint8_t rest[sizeof stretch], told[8];
+    memset(rest, 0xEE, sizeof rest);
+    memset(told, 0xEE, sizeof told);
+    uint32_t reply = pliruzza_rest(stretch, length, used, 2010, rest, rest_length, told, told_length);
+    printf("rest: %u%s", (unsigned)reply, rest[0] == 0xEE ? "" : " CHANGED");
+    if (told[0] == 0xEE) printf(" nothing written\n");
+    else printf(" record %u\n", (unsigned)number_at(told, 8));
 }
 
 /* Leaping runs with one thing wrong each: what is lent stays as it was, but for the result of 1 to 7. */
@@ -204,6 +247,10 @@ int main(void) {
     if (run_night(machine)) return 1;
     compare_runs(machine);
     for (size_t i = 0; i < sizeof wrongs / sizeof wrongs[0]; i++) refuse(&wrongs[i]);
+    refuse_rest(sizeof stretch, 1, sizeof stretch, 7);
+    refuse_rest(18, 1, sizeof stretch, 8);
+    refuse_rest(sizeof stretch, 4, sizeof stretch, 8);
+    refuse_rest(sizeof stretch, 1, 18, 8);
     ask(0x3E);
     ask(0xC6);
     ask(0x00);

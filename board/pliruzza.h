@@ -21,7 +21,9 @@
  *   27  the saved machine's version is not 1
  *   28  the saved machine's bytes stand for no machine
  *   29  the buffer for the result or for the answer is too short
- * They are tested in this order: 29, 26, 27, 28, 1, 2, 3, then the session from the front (4 to 7). A call that returns 26 to 29 writes nothing.
+ *   30  the session has fewer records than were used
+ *   31  the buffer for the rest of a session is too short
+ * They are tested in this order: 29, 26, 27, 28, 1, 2, 3, then the session from the front (4 to 7), 30, 31. A call that returns 26 or above writes nothing.
  */
 #ifndef PLIRUZZA_H
 #define PLIRUZZA_H
@@ -38,6 +40,7 @@ enum {
     PLIRUZZA_MACHINE = 42,    /* bytes of a saved machine (docs/SAVED.md) */
     PLIRUZZA_SINGLE = 40,     /* bytes of the single run's result */
     PLIRUZZA_LEAPING = 44,    /* bytes of the leaping run's result */
+    PLIRUZZA_REST = 8,        /* bytes of the result of the rest of a session */
     PLIRUZZA_ANSWER = 6       /* bytes of the answer about an opcode */
 };
 
@@ -67,6 +70,14 @@ uint32_t pliruzza_run_single(uint8_t *image, size_t image_length, uint8_t *machi
  */
 uint32_t pliruzza_run_leaping(uint8_t *image, size_t image_length, uint8_t *machine, size_t machine_length, const uint8_t *session, size_t session_length,
                               uint32_t n, uint8_t *output, size_t output_length, uint8_t *result, size_t result_length);
+
+/* The rest of a session after a run that used its first `used` records in `cycles` cycles: the records after them, their times less the cycles, or 0 where
+ * that would be below 0. It is what the next slice is lent. The rest goes to the front of `rest`; it is never longer than the session.
+ * Returns 29, 4 to 7 as a run does, 30 or 31, and leaves `rest` as it was; else 0. The result, little-endian; bytes after it are unchanged:
+ *    0  for 0 the length of the rest in bytes, for 4 to 7 the number of the bad record, counted from 0 (8)
+ */
+uint32_t pliruzza_rest(const uint8_t *session, size_t session_length, size_t used, uint32_t cycles, uint8_t *rest, size_t rest_length, uint8_t *result,
+                       size_t result_length);
 
 /* What an opcode means. Returns 29 or 8, and leaves `answer` as it was; else 0 and six numbers of a byte each; bytes after them are unchanged:
  *    0  the group of the operation

@@ -1,7 +1,7 @@
 -- The ways that each C call can end, as laws over plain variables. Assumes nothing.
 use Prim.Native.Nat.{ℕ, _≤_, _<_}
 use mathlib.Core.List.{List, []}
-use mathlib.Core.Option.{none}
+use mathlib.Core.Option.{none, some}
 use mathlib.Core.Path.{_≡_, sym, ap, _∙_}
 use lib.ListN.{length}
 use borrow.Author.Tests.{eq-eqb, ne-eqb, lt-ltb, le-ltb}
@@ -16,9 +16,11 @@ use Rattle.saved.specs.declared.Loaded.{Loaded}
 use Rattle.saved.specs.Layout.{savedOf}
 use Rattle.saved.specs.Answers.{leftOf, gives, toldLoaded, loadOf}
 use Rattle.saved.proofs.Exactly.{load-gives}
+use Rattle.rest.specs.declared.Rested.{Rested}
+use Rattle.rest.specs.Answers.{toldRest, restAnswer, restBuffer}
 use Rattle.results.specs.Bytes.{over}
 use Rattle.results.specs.Results.{countsOf, noCounts}
-use Rattle.board.specs.Board.{wrote, onPower, powerCall, onAsk, askCall, Lent, lent, Called, called, Form, reported, unfitReply, refusedCall, onLoad, runCall}
+use Rattle.board.specs.Board.{wrote, onPower, powerCall, onAsk, askCall, Lent, lent, Called, called, Form, reported, unfitReply, refusedCall, onLoad, runCall, rested, namedIn, onRest, restCall}
 
 -- what is saved into 42 bytes
 saved-over : (m : Machine) (machine : List ℕ) {s : List ℕ} → length machine ≡ 42 → s ≡ leftOf m machine → s ≡ savedOf m
@@ -85,3 +87,22 @@ module _ (size : ℕ) (form : Form) (l : Lent) (session : List ℕ) (n : ℕ) wh
       ∙ ap (λ (x : Answer). reported form (x .reply) (countsOf x) leaps (lent (x .image) (savedOf (x .machine)) (x .output) (l .result))) a
       ∙ ap (λ (leaps : ℕ). let x = answerOf (l .image) m session n (l .output) in
       reported form (x .reply) (countsOf x) leaps (lent (x .image) (savedOf (x .machine)) (x .output) (l .result))) p
+
+-- the rest of a session
+module _ (session : List ℕ) (used cycles : ℕ) (buffer result : List ℕ) where
+  pub rest-short : length result < 8 → rested 29 buffer result ≡ restCall session used cycles buffer result
+  unfolding restCall
+  rest-short h = sym (picks _ _ (lt-ltb _ _ h))
+
+  pub rest-left : {a : Rested} (b : Rested) {left : List ℕ} → 8 ≤ length result
+      → (toldRest a ≡ restAnswer session used cycles buffer) × (left ≡ restBuffer session used cycles buffer) → a ≡ b
+      → onRest left result (toldRest b) ≡ restCall session used cycles buffer result
+  unfolding restCall
+  rest-left b h e f =
+      ap (λ (left : List ℕ). onRest left result (toldRest b)) (e .1)
+      ∙ sym (passes _ _ (le-ltb _ _ h) ∙ ap (onRest (restBuffer session used cycles buffer) result) (sym (e .0) ∙ ap toldRest f))
+
+-- a number told in the result
+pub rest-told : (left result : List ℕ) (n j : ℕ) {k : ℕ} {r : List ℕ} → (k ≡ j) × (r ≡ namedIn (some n) result)
+    → rested k left r ≡ rested j left (namedIn (some n) result)
+rest-told left result n j {k} {r} e = λ i. rested (e .0 i) left (e .1 i)

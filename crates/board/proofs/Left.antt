@@ -4,17 +4,21 @@ use Prim.Native.Nat.{ℕ, _≤_}
 use native.Mathlib.Omega.{arith}
 use mathlib.Core.Bool.{Bool, true, false, cond}
 use mathlib.Core.List.{List, append-assoc}
-use mathlib.Core.Option.{none, Option·getD}
+use mathlib.Core.Option.{Option, none, some, Option·getD}
 use mathlib.Core.Path.{_≡_, refl, sym, ap, subst, _∙_}
-use lib.Dec.{eqb}
+use mathlib.Core.Logic.{_⊎_, inl, inr, ⊎-elim}
+use lib.Dec.{eqb, ltb}
 use lib.ListN.{length, take}
 use lib.Seq.{take-at}
 use borrow.Author.Tests.{eq-eqb, le-ltb}
+use Rattle.session.specs.Session.{checkOf}
+use Rattle.session.specs.declared.Checked.{Checked}
+use Rattle.session.specs.declared.Checked.the-variants.{Sound, Length, Kind, Value, Time}
 use Rattle.machine.specs.declared.Machine.{Machine}
 use Rattle.machine.specs.Machine.{cold, resetOf}
 use Rattle.machine.proofs.Ranges.{say-ranges}
-use Rattle.boundary.proofs.Picks.{picks, passes}
-use Rattle.cabinet.specs.Replies.{Told, told}
+use Rattle.boundary.proofs.Picks.{picks, passes, cases}
+use Rattle.cabinet.specs.Replies.{Told, told, toldCheck}
 use Rattle.cabinet.specs.Answers.{Answer, answerOf, leapsOf}
 use Rattle.cabinet.proofs.Left.{refused-untouched, machine-left}
 use Rattle.cabinet.proofs.Given.{power-gives}
@@ -23,10 +27,12 @@ use Rattle.saved.specs.Answers.{Given, gives, replies, loadOf}
 use Rattle.saved.proofs.Back.{Bytes, load-then-save}
 use Rattle.saved.proofs.Kept.{save-then-load}
 use Rattle.saved.proofs.Exactly.{loaded-ranges}
+use Rattle.rest.specs.Rest.{hasFewer, restOf}
+use Rattle.rest.specs.Answers.{firstOf, answerBy, bufferBy, restRefusal, restAnswer, restBuffer}
 use Rattle.results.specs.Bytes.{littleEndian, over}
 use Rattle.results.specs.Results.{Counts, noCounts, countsOf, singleBytes, leapingBytes}
 use Rattle.results.proofs.Laws.{result-long}
-use Rattle.board.specs.Board.{wrote, onPower, powerCall, Lent, Called, called, Form, reported, unfitReply, onLoad, runCall, single, singleCall, leapingCall}
+use Rattle.board.specs.Board.{wrote, onPower, powerCall, Lent, Called, called, Form, reported, unfitReply, onLoad, runCall, single, singleCall, leapingCall, Rest, rested, namedIn, onRest, restCall}
 use Rattle.board.proofs.Ends.{reply-most, unfit-small, call-cases}
 
 -- power-on into 42 bytes, of a whole image and an R that fits: the saved machine is the one that reset makes, and a run loads it
@@ -124,3 +130,37 @@ runs-agree l session n h =
         let a = answerOf (l .image) m session n (l .output) in
         (refl, refl, refl, refl, records-alike (a .reply) (countsOf a) (leapsOf (l .image) m session n (l .output)) (l .result))
     alike (replies k) = refused (eqb k 2) k (told (unfitReply (l .image)) none)
+
+-- the rest of a session: a refusal leaves the lent buffer, and one of 26 or above leaves the result too
+module _ (session : List ℕ) (used cycles : ℕ) (buffer result : List ℕ) where
+  abbrev rest : List ℕ
+  rest = restOf session used cycles
+
+  abbrev answered : Option Told → Rest
+  answered o = onRest (bufferBy o rest buffer) result (answerBy o rest)
+
+  -- each way that the call can end
+  rest-cases : (P : Rest → Type 0) → P (rested 29 buffer result) → ((t : Told) → (t .number ≤ 9) ⊎ (t .named ≡ none) → P (answered (some t))) → P (answered none)
+      → P (restCall session used cycles buffer result)
+  unfolding restCall restBuffer restAnswer restRefusal
+  rest-cases P short refused done = cases P (ltb (length result) 8) (λ _. short) (λ _. by (checkOf session))
+    where
+      by : (c : Checked)
+          → P (answered (firstOf (toldCheck c) (cond (hasFewer session used) (some (told 30 none)) (cond (ltb (length buffer) (length rest)) (some (told 31 none)) none))))
+      by Sound =
+          cases (λ (o : Option Told). P (answered o)) (hasFewer session used) (λ _. refused (told 30 none) (inr refl))
+          (λ _. cases (λ (o : Option Told). P (answered o)) (ltb (length buffer) (length rest)) (λ _. refused (told 31 none) (inr refl)) (λ _. done))
+      by (Length k) = refused (told 4 (some k)) (inl (omega arith))
+      by (Kind k) = refused (told 5 (some k)) (inl (omega arith))
+      by (Value k) = refused (told 6 (some k)) (inl (omega arith))
+      by (Time k) = refused (told 7 (some k)) (inl (omega arith))
+
+  pub rest-kept : let c = restCall session used cycles buffer result in 1 ≤ c .number → c .rest ≡ buffer
+  rest-kept = rest-cases (λ c. 1 ≤ c .number → c .rest ≡ buffer) (λ p. refl) (λ t h p. refl) (λ p. absurd (let z : ⊥ = omega arith in z))
+
+  pub rest-writes-nothing : let c = restCall session used cycles buffer result in 26 ≤ c .number → (c .rest ≡ buffer) × (c .result ≡ result)
+  rest-writes-nothing =
+      rest-cases (λ c. 26 ≤ c .number → (c .rest ≡ buffer) × (c .result ≡ result))
+      (λ p. (refl, refl))
+      (λ t h p. ⊎-elim (λ low. absurd (let z : ⊥ = omega arith in z)) (λ e. (refl, ap (λ (o : Option ℕ). namedIn o result) e)) h)
+      (λ p. absurd (let z : ⊥ = omega arith in z))

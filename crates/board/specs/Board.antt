@@ -1,10 +1,10 @@
 -- What each C call leaves, for all inputs: the number that it returns, and every byte of what it is lent to write.
 -- Beside 01's replies: 26 a saved machine that is not 42 bytes, 27 its version is another, 28 its bytes stand for no machine (crates/saved);
--- 29 a buffer for a record is too short. A call that returns 26 to 29 writes nothing.
+-- 29 a buffer for a record is too short; 30 and 31 as crates/rest says. A call that returns 26 or above writes nothing.
 use Prim.Native.Nat.{ℕ}
 use mathlib.Core.Bool.{cond}
 use mathlib.Core.List.{List}
-use mathlib.Core.Option.{none}
+use mathlib.Core.Option.{Option, none, some}
 use lib.Dec.{eqb, ltb}
 use lib.ListN.{length}
 use Rattle.opcodes.specs.declared.Instruction.{Instruction}
@@ -14,7 +14,8 @@ use Rattle.cabinet.specs.Answers.{answerOf, leapsOf, powerAnswer, opcodeAnswer}
 use Rattle.saved.specs.Layout.{savedOf}
 use Rattle.saved.specs.Answers as load
 use Rattle.numbering.specs.Numbers.{instructionBytes}
-use Rattle.results.specs.Bytes.{over}
+use Rattle.rest.specs.Answers as rest
+use Rattle.results.specs.Bytes.{littleEndian, over}
 use Rattle.results.specs.Results.{Counts, countsOf, noCounts, singleBytes, leapingBytes}
 
 -- what power-on and the question about an opcode return, and the one buffer that each is lent to write
@@ -99,3 +100,27 @@ singleCall = runCall 40 single
 
 unfoldable pub leapingCall : Lent → List ℕ → ℕ → Called
 leapingCall = runCall 44 leapingBytes
+
+-- what the rest of a session returns, and the two buffers that it is lent to write
+pub record Rest : Type 0 where
+  pub number : ℕ
+  pub rest : List ℕ
+  pub result : List ℕ
+
+abbrev pub rested : ℕ → List ℕ → List ℕ → Rest
+rested number rest result = record { number = number; rest = rest; result = result }
+
+-- the result's 8 bytes tell the rest's length, or the record that 4 to 7 name
+abbrev pub namedIn : Option ℕ → List ℕ → List ℕ
+namedIn none result = result
+namedIn (some k) result = over (littleEndian 8 k) result
+
+abbrev pub onRest : List ℕ → List ℕ → rest.Answer → Rest
+onRest buffer result (rest.wrote length) = rested 0 buffer (over (littleEndian 8 length) result)
+onRest buffer result (rest.refuses t) = rested (t .number) buffer (namedIn (t .named) result)
+
+-- the rest of a session: 29 where the result has less than 8 bytes; then 4 to 7, 30 or 31, or 0 and the rest
+unfoldable pub restCall : List ℕ → ℕ → ℕ → List ℕ → List ℕ → Rest
+restCall session used cycles buffer result =
+    cond (ltb (length result) 8) (rested 29 buffer result)
+    (onRest (rest.restBuffer session used cycles buffer) result (rest.restAnswer session used cycles buffer))

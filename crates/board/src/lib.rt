@@ -1,10 +1,14 @@
-// The C calls: power-on, the two runs and the question about one opcode, over numbers and lent bytes. board/pliruzza.h declares them
+// The C calls: power-on, the two runs, the question about one opcode and the rest of a session, over numbers and lent bytes. board/pliruzza.h declares them
 // and says what each number and each byte means.
 use machine::Power;
 use opcodes::Decoded;
+use rest::Rested;
 use saved::Loaded;
 ghost use mathlib.Core.Path.{_≡_};
-ghost use Rattle.board.specs.Board.{wrote, powerCall, askCall, lent, called, unfitReply, singleCall, leapingCall};
+ghost use mathlib.Core.Option.{some};
+ghost use Prim.Native.Nat.{_≤_};
+ghost use lib.ListN.{length};
+ghost use Rattle.board.specs.Board.{wrote, powerCall, askCall, lent, called, unfitReply, singleCall, leapingCall, namedIn, rested, restCall};
 
 // Power-on into a saved machine.
 #[no_mangle]
@@ -116,5 +120,40 @@ pub extern "C" fn pliruzza_run_leaping(
             results::refuse_leaping(reply, result);
             reply
         }
+    }
+}
+
+// A number in the result of a reply, which is returned.
+fn tell(reply: u32, number: usize, result: &mut [u8]) -> u32
+    requires { ⌜ 8 ≤ length (now result) ⌝ }
+    ensures { λ r. ⌜ (r ≡ reply) × (now (result .exit) ≡ namedIn (some number) (now (result .entry))) ⌝ }
+{
+    results::put(&mut result[0..8], number as u64);
+    reply
+}
+
+// The rest of a session, of which so many records were used in so many cycles.
+#[no_mangle]
+pub extern "C" fn pliruzza_rest(
+    session: &[u8],
+    used: usize,
+    cycles: u32,
+    buffer: &mut [u8],
+    result: &mut [u8],
+) -> u32
+    ensures { λ k. ⌜ rested k (now (buffer .exit)) (now (result .exit)) ≡ restCall (now (session .entry)) used cycles (now (buffer .entry)) (now (result .entry)) ⌝ }
+{
+    if result.len() < 8 {
+        return 29;
+    }
+    let left = rest::rest(session, used, cycles, buffer);
+    match left {
+        Rested::Written(length) => tell(0, length, result),
+        Rested::Length(k) => tell(4, k, result),
+        Rested::Kind(k) => tell(5, k, result),
+        Rested::Value(k) => tell(6, k, result),
+        Rested::Time(k) => tell(7, k, result),
+        Rested::TooFew => 30,
+        Rested::NoRoom => 31,
     }
 }

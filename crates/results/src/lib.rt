@@ -18,7 +18,7 @@ ghost use Rattle.results.specs.Bytes.{littleEndian, over};
 ghost use Rattle.results.specs.Results.{counts, countsOf, noCounts, resultBytes, singleBytes, leapingBytes};
 
 // A number over all of a lent part, the lowest byte first.
-fn put(part: &mut [u8], number: u64)
+pub fn put(part: &mut [u8], number: u64)
     ensures { λ _. ⌜ now (part .exit) ≡ littleEndian (length (now (part .entry))) number ⌝ }
 {
     let mut rest = number;
