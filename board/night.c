@@ -1,0 +1,258 @@
+/* A night of the cabinet in eight slices of an hour each, at 250,000 cycles a second: the C calls of pliruzza.h, over a
+ * machine that is kept as bytes between the slices. board/run.sh builds and runs it, and compares what it prints with
+ * board/night.expected, which is worked out here and was written before the first run:
+ *
+ * The ROM sets up the serial interface (7 instructions, 24 cycles) and waits. A received byte interrupts (4 cycles out of
+ * a wait): LDAA, STAA, LDAA, STAA at 3 cycles each keep the status and echo the byte, INC (6) counts it, RTI (10), BRA (3)
+ * and WAI (9) go back to waiting: 8 instructions.
+ *   hour 0  set up, then one long wait: 7 instructions, 1 leap.
+ *   hour 1  a byte: 8 instructions, 1 entry, 1 sent, a leap before it and one after it.
+ *   hour 2  two bytes at the far end of a wait: the first is kept and echoed, the second is an overrun. One entry for both.
+ *   hour 3  an NMI: INC, RTI, BRA, WAI.
+ *   hour 4  port 1 pins change: nothing runs, but a record ends a leap.
+ *   hour 5  a byte 9 cycles before the end: 4 + 3 + 3 cycles later the slice is over, one cycle late, with 2 instructions done.
+ *   hour 6  so this slice is a cycle shorter. A pins record that fell into that cycle is due at once; the echo goes on: 6 instructions.
+ *   hour 7  a reset: 7 instructions again.
+ */
+#include "pliruzza.h"
+
+#include <stdio.h>
+#include <string.h>
+
+#define SLICES 8
+#define HOUR 900000000u
+
+struct event {
+    uint64_t time; /* in cycles from power-on */
+    uint8_t kind;
+    uint8_t payload[2];
+};
+
+enum { PORT1 = 1, NMI = 4, RECEIVED = 5, RESET = 7 };
+
+static const struct event night[] = {
+    {1 * (uint64_t)HOUR + 450000000, RECEIVED, {'A', 1}},
+    {2 * (uint64_t)HOUR + 450000000, RECEIVED, {'B', 1}},
+    {2 * (uint64_t)HOUR + 450000000, RECEIVED, {'C', 1}},
+    {3 * (uint64_t)HOUR + 1000, NMI, {0}},
+    {4 * (uint64_t)HOUR + 500, PORT1, {0xFE}},
+    {6 * (uint64_t)HOUR - 9, RECEIVED, {'D', 1}},
+    {6 * (uint64_t)HOUR, PORT1, {0xFF}},
+    {7 * (uint64_t)HOUR + 100, RESET, {0}},
+};
+#define EVENTS (sizeof night / sizeof night[0])
+
+static uint8_t image[PLIRUZZA_IMAGE];
+
+static void load(size_t at, const char *bytes, size_t length) { memcpy(image + at, bytes, length); }
+
+/* $F000: LDS #$00FF; rate register 5, 128 cycles a bit; TE, RE, RIE; CLI; WAI; BRA to the WAI. $F100, serial: the status to
+ * $82, the byte echoed, INC $0080, RTI. $F200, NMI: INC $0081, RTI. The vectors of serial, NMI and reset. */
+static void load_rom(void) {
+    load(0xF000, "\x8E\x00\xFF\x86\x05\x97\x10\x86\x1A\x97\x11\x0E\x3E\x20\xFD", 15);
+    load(0xF100, "\x96\x11\x97\x82\x96\x12\x97\x13\x7C\x00\x80\x3B", 12);
+    load(0xF200, "\x7C\x00\x81\x3B", 4);
+    load(0xFFF0, "\xF1\x00", 2);
+    load(0xFFFC, "\xF2\x00\xF0\x00", 4);
+}
+
+static uint8_t *little(uint8_t *to, uint64_t number, int width) {
+    for (; width > 0; width--, number >>= 8) *to++ = (uint8_t)number;
+    return to;
+}
+
+static uint64_t number_at(const uint8_t *from, int width) {
+    uint64_t number = 0;
+    while (width-- > 0) number = number << 8 | from[width];
+    return number;
+}
+
+/* The session records of the events before a time, their times counted from the slice's start. An event that fell into the
+ * cycles by which the slice before ran over is due at once. */
+static size_t session_of(size_t next, uint64_t start, uint64_t end, uint8_t *session) {
+    static const uint8_t payload[] = {0, 1, 1, 1, 0, 2, 0, 0};
+    uint8_t *to = session;
+    for (; next < EVENTS && night[next].time < end; next++) {
+        const struct event *e = &night[next];
+        to = little(to, 6 + payload[e->kind], 2);
+        to = little(to, e->kind, 2);
+        to = little(to, e->time < start ? 0 : e->time - start, 4);
+        for (int i = 0; i < payload[e->kind]; i++) *to++ = e->payload[i];
+    }
+    return (size_t)(to - session);
+}
+
+static void show(const char *name, const uint8_t *from, int width) {
+    printf(" %s %llu", name, (unsigned long long)number_at(from, width));
+}
+
+static void show_bytes(const char *name, const uint8_t *bytes, uint64_t count) {
+    printf(" %s", name);
+    for (uint64_t i = 0; i < count; i++) printf(" %02X", bytes[i]);
+}
+
+static int run_night(uint8_t *machine) {
+    uint64_t now = 0;
+    size_t next = 0;
+    for (int slice = 0; slice < SLICES; slice++) {
+        uint8_t session[16 * EVENTS], output[16], result[PLIRUZZA_LEAPING];
+        uint64_t end = (slice + 1) * (uint64_t)HOUR;
+        size_t length = session_of(next, now, end, session);
+        uint32_t reply = pliruzza_run_leaping(image, sizeof image, machine, PLIRUZZA_MACHINE, session, length,
+                                              (uint32_t)(end - now), output, sizeof output, result, sizeof result);
+        uint64_t sent = number_at(result + 24, 8);
+        printf("hour %d reply %u", slice, (unsigned)reply);
+        show("cycles", result + 4, 4);
+        show("instr", result + 8, 4);
+        show("entries", result + 12, 4);
+        show("used", result + 16, 8);
+        show("sent", result + 24, 8);
+        show("leaps", result + 40, 4);
+        if (sent) show_bytes("out", output, sent);
+        printf("\n");
+        if (reply != 0) return 1;
+        now += number_at(result + 4, 4);
+        next += number_at(result + 16, 8);
+    }
+    printf("night cycles %llu bytes %u doors %u status %02X\n", (unsigned long long)now, image[0x80], image[0x81], image[0x82]);
+    return 0;
+}
+
+/* A stretch of 20,000 cycles after the night: two bytes, and pins. */
+#define STRETCH 20000u
+static const uint8_t stretch[] = {
+    8, 0, 5, 0, 0xD0, 0x07, 0, 0, 'E', 1,  /* at 2,000 */
+    8, 0, 5, 0, 0xF8, 0x2A, 0, 0, 'F', 1,  /* at 11,000 */
+    7, 0, 1, 0, 0x98, 0x3A, 0, 0, 0xFE,    /* at 15,000 */
+};
+
+/* What a run is lent. */
+struct lent {
+    uint8_t image[PLIRUZZA_IMAGE], machine[PLIRUZZA_MACHINE], output[8], result[PLIRUZZA_LEAPING];
+};
+
+static void lend(struct lent *l, const uint8_t *machine) {
+    memset(l, 0, sizeof *l);
+    memcpy(l->image, image, sizeof image);
+    memcpy(l->machine, machine, PLIRUZZA_MACHINE);
+}
+
+static void run_leaping(struct lent *l, const uint8_t *session, size_t length, uint32_t n, size_t sent) {
+    pliruzza_run_leaping(l->image, PLIRUZZA_IMAGE, l->machine, PLIRUZZA_MACHINE, session, length, n, l->output + sent,
+                         sizeof l->output - sent, l->result, PLIRUZZA_LEAPING);
+}
+
+static const char *alike(const struct lent *a, const struct lent *b) {
+    return memcmp(a->image, b->image, PLIRUZZA_IMAGE) || memcmp(a->machine, b->machine, PLIRUZZA_MACHINE)
+                   || memcmp(a->output, b->output, sizeof a->output)
+               ? "DIFFER"
+               : "alike";
+}
+
+/* Both runs of the stretch from one start, and the leaping run of it in two slices, of which the first stops within the
+ * first byte's handler: 4 + 3 + 3 cycles after 2,000, two late. They leave the same image, machine and output. */
+static void compare_runs(const uint8_t *machine) {
+    static struct lent single, leaping, sliced;
+    uint8_t rest[sizeof stretch], told[8];
+    lend(&single, machine);
+    lend(&leaping, machine);
+    lend(&sliced, machine);
+    pliruzza_run_single(single.image, PLIRUZZA_IMAGE, single.machine, PLIRUZZA_MACHINE, stretch, sizeof stretch, STRETCH,
+                        single.output, sizeof single.output, single.result, PLIRUZZA_SINGLE);
+    run_leaping(&leaping, stretch, sizeof stretch, STRETCH, 0);
+    printf("single and leaping %s", alike(&single, &leaping));
+    show_bytes("results", single.result, PLIRUZZA_LEAPING);
+    show_bytes("and", leaping.result, PLIRUZZA_LEAPING);
+    printf("\n");
+    run_leaping(&sliced, stretch, sizeof stretch, 2008, 0);
+    uint32_t cycles = (uint32_t)number_at(sliced.result + 4, 4);
+    size_t used = (size_t)number_at(sliced.result + 16, 8), sent = (size_t)number_at(sliced.result + 24, 8);
+    uint32_t reply = pliruzza_rest(stretch, sizeof stretch, used, cycles, rest, sizeof rest, told, sizeof told);
+    printf("after %u cycles: rest %u of %u bytes,", (unsigned)cycles, (unsigned)reply, (unsigned)number_at(told, 8));
+    run_leaping(&sliced, rest, (size_t)number_at(told, 8), STRETCH - cycles, sent);
+    printf(" then %u cycles, %s\n", (unsigned)number_at(sliced.result + 4, 4), alike(&sliced, &leaping));
+}
+
+static void refuse_rest(size_t length, size_t used, size_t rest_length, size_t told_length) {
+    uint8_t rest[sizeof stretch], told[8];
+    memset(rest, 0xEE, sizeof rest);
+    memset(told, 0xEE, sizeof told);
+    uint32_t reply = pliruzza_rest(stretch, length, used, 2010, rest, rest_length, told, told_length);
+    printf("rest: %u%s", (unsigned)reply, rest[0] == 0xEE ? "" : " CHANGED");
+    if (told[0] == 0xEE) printf(" nothing written\n");
+    else printf(" record %u\n", (unsigned)number_at(told, 8));
+}
+
+/* Leaping runs with one thing wrong each: what is lent stays as it was, but for the result of 1 to 7. */
+struct wrong {
+    const char *what;
+    size_t image, machine;
+    int byte; /* of the saved machine, -1: none */
+    uint8_t value;
+    const char *session;
+    size_t length;
+    uint32_t n;
+    size_t result;
+};
+
+static const struct wrong wrongs[] = {
+    {"short result", 65536, 42, -1, 0, "", 0, 100, 43},
+    {"short machine", 65536, 41, -1, 0, "", 0, 100, 44},
+    {"version 2", 65536, 42, 0, 2, "", 0, 100, 44},
+    {"waiting 2", 65536, 42, 11, 2, "", 0, 100, 44},
+    {"short image", 65535, 42, -1, 0, "", 0, 100, 44},
+    {"short image, pins 32", 65535, 42, 19, 32, "", 0, 100, 44},
+    {"pins 32", 65536, 42, 19, 32, "", 0, 100, 44},
+    {"N 1000000001", 65536, 42, -1, 0, "", 0, 1000000001, 44},
+    {"cut short", 65536, 42, -1, 0, "\6\0\4\0\0\0\0\0\6\0", 10, 100, 44},
+    {"kind 9", 65536, 42, -1, 0, "\6\0\11\0\0\0\0\0", 8, 100, 44},
+    {"pins 32 to come", 65536, 42, -1, 0, "\7\0\2\0\0\0\0\0\40", 9, 100, 44},
+    {"time 1, then 0", 65536, 42, -1, 0, "\6\0\4\0\1\0\0\0\6\0\4\0\0\0\0\0", 16, 100, 44},
+};
+
+static void refuse(const struct wrong *w) {
+    uint8_t machine[PLIRUZZA_MACHINE], before[PLIRUZZA_MACHINE];
+    uint8_t output[4] = {1, 2, 3, 4}, result[PLIRUZZA_LEAPING];
+    memset(result, 0xEE, sizeof result);
+    pliruzza_power_on(image, sizeof image, 0xF000, machine, sizeof machine);
+    if (w->byte >= 0) machine[w->byte] = w->value;
+    memcpy(before, machine, sizeof machine);
+    uint32_t reply = pliruzza_run_leaping(image, w->image, machine, w->machine, (const uint8_t *)w->session, w->length, w->n,
+                                          output, sizeof output, result, w->result);
+    int kept = !memcmp(machine, before, sizeof machine) && !memcmp(output, "\1\2\3\4", 4);
+    printf("%s: %u%s", w->what, (unsigned)reply, kept ? "" : " CHANGED");
+    if (result[0] == 0xEE) printf(" nothing written\n");
+    else printf(" record %llu\n", (unsigned long long)number_at(result + 32, 8));
+}
+
+static void ask(uint8_t opcode) {
+    uint8_t answer[PLIRUZZA_ANSWER];
+    uint32_t reply = pliruzza_ask(opcode, answer, sizeof answer);
+    printf("opcode %02X reply %u", opcode, (unsigned)reply);
+    if (reply == 0) show_bytes("is", answer, sizeof answer);
+    printf("\n");
+}
+
+static void power_on(size_t image_length, uint32_t r, uint8_t *machine, size_t machine_length) {
+    printf("power-on %u\n", (unsigned)pliruzza_power_on(image, image_length, r, machine, machine_length));
+}
+
+int main(void) {
+    uint8_t machine[PLIRUZZA_MACHINE];
+    load_rom();
+    power_on(sizeof image, 0xF000, machine, 41);
+    power_on(65535, 0xF000, machine, sizeof machine);
+    power_on(sizeof image, 65537, machine, sizeof machine);
+    power_on(sizeof image, 0xF000, machine, sizeof machine);
+    if (run_night(machine)) return 1;
+    compare_runs(machine);
+    for (size_t i = 0; i < sizeof wrongs / sizeof wrongs[0]; i++) refuse(&wrongs[i]);
+    refuse_rest(sizeof stretch, 1, sizeof stretch, 7);
+    refuse_rest(18, 1, sizeof stretch, 8);
+    refuse_rest(sizeof stretch, 4, sizeof stretch, 8);
+    refuse_rest(sizeof stretch, 1, 18, 8);
+    ask(0x3E);
+    ask(0xC6);
+    ask(0x00);
+    return 0;
+}

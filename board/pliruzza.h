@@ -1,0 +1,107 @@
+/* Pliruzza: a proved model of the HD6803, for C.
+ *
+ * `rt staticlib board` writes target/staticlib/libboard.a, which defines these calls for x86-64 Linux. Each is proved against the contract that
+ * crates/board states: for all lengths and bytes that are lent, it fixes the number returned and every byte that is written.
+ *
+ * A buffer is passed as a pointer and a length in bytes. What the caller owes, and nothing can test: the bytes are there (to be written where the
+ * pointer is not const), two buffers of one call do not overlap, and no pointer is null, also where the length is 0.
+ *
+ * Numbers returned:
+ *    0  done; of a run: the cycle limit N is reached
+ *    1  the image is not 65,536 bytes
+ *    2  the machine is outside its ranges; of power-on: R is above 65,536
+ *    3  N is above 1,000,000,000
+ *    4  a session record is cut short, or its length is wrong for its kind
+ *    5  a record's kind is unknown
+ *    6  a record's value is out of range
+ *    7  a record's time is before the previous record's
+ *    8  the opcode is undefined
+ *    9  a byte is to be sent and the output has no room
+ *   26  the saved machine is not 42 bytes
+ *   27  the saved machine's version is not 1
+ *   28  the saved machine's bytes stand for no machine
+ *   29  the buffer for the result or for the answer is too short
+ *   30  the session has fewer records than were used
+ *   31  the buffer for the rest of a session is too short
+ * They are tested in this order: 29, 26, 27, 28, 1, 2, 3, then the session from the front (4 to 7), 30, 31. A call that returns 26 or above writes nothing.
+ */
+#ifndef PLIRUZZA_H
+#define PLIRUZZA_H
+
+#include <stddef.h>
+#include <stdint.h>
+
+#ifdef __cplusplus
+extern "C" {
+#endif
+
+enum {
+    PLIRUZZA_IMAGE = 65536,   /* bytes of an image: the whole address space */
+    PLIRUZZA_MACHINE = 42,    /* bytes of a saved machine (docs/SAVED.md) */
+    PLIRUZZA_SINGLE = 40,     /* bytes of the single run's result */
+    PLIRUZZA_LEAPING = 44,    /* bytes of the leaping run's result */
+    PLIRUZZA_REST = 8,        /* bytes of the result of the rest of a session */
+    PLIRUZZA_ANSWER = 6       /* bytes of the answer about an opcode */
+};
+
+/* Power-on: the machine after reset, its PC from $FFFE of the image, is saved into `machine`. R is the start of read-only memory.
+ * Returns 26, 1 or 2, and leaves `machine` as it was; else 0. */
+uint32_t pliruzza_power_on(const uint8_t *image, size_t image_length, uint32_t r, uint8_t *machine, size_t machine_length);
+
+/* The single run: the saved machine runs on the image, with the session's records at their times, until N cycles are reached (0), an undefined
+ * opcode is met (8) or a byte is to be sent and the output has no room (9). Then the machine is saved where it was, image and output are as the run left
+ * them, and the result tells the counts. The output's first `bytes sent` bytes are what was sent; those after them are unchanged.
+ * On 1 to 7 image, machine and output are unchanged, and the result tells the reply, zero counts and, for 4 to 7, the bad record.
+ *
+ * The result, little-endian; bytes after it are unchanged:
+ *    0  the number returned (4)
+ *    4  cycles (4)
+ *    8  instructions (4)
+ *   12  interrupt entries (4)
+ *   16  session records used (8)
+ *   24  bytes sent (8)
+ *   32  for 4 to 7 the number of the bad record, counted from 0; else 0 (8)
+ */
+uint32_t pliruzza_run_single(uint8_t *image, size_t image_length, uint8_t *machine, size_t machine_length, const uint8_t *session, size_t session_length,
+                             uint32_t n, uint8_t *output, size_t output_length, uint8_t *result, size_t result_length);
+
+/* The leaping run: proved to leave the same in every byte, and a long wait is passed in leaps. Its result tells one count more:
+ *   40  leaps (4)
+ */
+uint32_t pliruzza_run_leaping(uint8_t *image, size_t image_length, uint8_t *machine, size_t machine_length, const uint8_t *session, size_t session_length,
+                              uint32_t n, uint8_t *output, size_t output_length, uint8_t *result, size_t result_length);
+
+/* The rest of a session after a run that used its first `used` records in `cycles` cycles: the records after them, their times less the cycles, or 0 where
+ * that would be below 0. It is what the next slice is lent. The rest goes to the front of `rest`; it is never longer than the session.
+ * Returns 29, 4 to 7 as a run does, 30 or 31, and leaves `rest` as it was; else 0. The result, little-endian; bytes after it are unchanged:
+ *    0  for 0 the length of the rest in bytes, for 4 to 7 the number of the bad record, counted from 0 (8)
+ */
+uint32_t pliruzza_rest(const uint8_t *session, size_t session_length, size_t used, uint32_t cycles, uint8_t *rest, size_t rest_length, uint8_t *result,
+                       size_t result_length);
+
+/* What an opcode means. Returns 29 or 8, and leaves `answer` as it was; else 0 and six numbers of a byte each; bytes after them are unchanged:
+ *    0  the group of the operation
+ *    1  the operation within its group, 0 where it is alone there
+ *    2  the accumulator that is part of the operation: 0 none, 1 A, 2 B
+ *    3  the operand place: 0 inherent, 1 accumulator A, 2 accumulator B, 3 immediate byte, 4 immediate word, 5 direct, 6 indexed, 7 extended,
+ *       8 relative
+ *    4  length in bytes
+ *    5  cycles
+ * Groups, each with its operations from 0 on:
+ *    0  NOP LSRD ASLD TAP TPA INX DEX CLV SEV CLC SEC CLI SEI SBA CBA TAB TBA DAA ABA TSX INS DES TXS ABX MUL
+ *    1  SUB CMP SBC AND BIT LDA EOR ADC ORA ADD, with accumulator
+ *    2  NEG COM LSR ROR ASR ASL ROL DEC INC CLR
+ *    3  TST        4  STA, with accumulator
+ *    5  SUBD ADDD CPX LDD LDS LDX
+ *    6  STD STS STX
+ *    7  PSH, with accumulator        8  PUL, with accumulator        9  PSHX        10  PULX
+ *   11  BRA BRN BHI BLS BCC BCS BNE BEQ BVC BVS BPL BMI BGE BLT BGT BLE
+ *   12  JMP   13  JSR   14  BSR   15  RTS   16  RTI   17  SWI   18  WAI
+ */
+uint32_t pliruzza_ask(uint8_t opcode, uint8_t *answer, size_t answer_length);
+
+#ifdef __cplusplus
+}
+#endif
+
+#endif
