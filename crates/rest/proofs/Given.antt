@@ -1,21 +1,23 @@
 -- What the call answers and leaves, case by case, in the order of its tests. Assumes nothing.
-use Prim.Native.Nat.{ℕ, _+_, _-_, _≤_, _<_}
+use Prim.Native.Nat.{ℕ, _-_, _≤_, _<_}
 use native.Mathlib.Omega.{arith}
 use mathlib.Core.List.{List, [], _++_}
 use mathlib.Core.Option.{Option, none, some}
-use mathlib.Core.Path.{_≡_, refl, sym, ap, subst, _∙_}
+use mathlib.Core.Path.{_≡_, refl, sym, ap, _∙_}
 use mathlib.Core.Bool.{Bool, true, false, cond}
 use lib.Dec.{ltb}
 use lib.ListN.{length, drop}
 use borrow.Author.Tests.{lt-ltb, le-ltb, ltb-false}
 use Rattle.session.specs.Session.{checkOf}
 use Rattle.session.specs.declared.Checked.{Checked}
-use Rattle.session.specs.declared.Checked.the-variants.{Sound}
+use Rattle.session.specs.declared.Checked.the-variants.{Sound, Length, Kind, Value, Time}
+use Rattle.session.proofs.Laws.{Refusal}
 use Rattle.boundary.proofs.Picks.{picks, passes}
 use Rattle.cabinet.specs.Replies.{Told, told, toldCheck}
+use Rattle.cabinet.proofs.Ends.{toldRefusal}
 use Rattle.rest.specs.Rest.{placeOf, hasFewer, skipOf, restFrom, restOf}
 use Rattle.rest.specs.Ahead.{SoundFrom}
-use Rattle.rest.specs.Answers.{Answer, wrote, refuses, toldRest, firstOf, restRefusal, answerBy, restAnswer, bufferBy, restBuffer}
+use Rattle.rest.specs.Answers.{wrote, refuses, toldRest, firstOf, restRefusal, answerBy, restAnswer, bufferBy, restBuffer}
 use Rattle.rest.specs.declared.Rested.{Rested}
 use Rattle.rest.specs.declared.Rested.the-variants.{Written, TooFew, NoRoom}
 use Rattle.rest.proofs.Places.{place-sound}
@@ -45,65 +47,85 @@ skipped-sound s k at h e =
     let p = skip-some s k at e in
     rw (p .1) (place-sound s k h (ltb-false _ _ (p .0)))
 
-module _ (s : List ℕ) (used cycles : ℕ) (b : List ℕ) where
-  -- a result and a buffer that the contract admits
-  abbrev pub Gives : Rested → List ℕ → Type 0
-  Gives r after = (toldRest r ≡ restAnswer s used cycles b) × (after ≡ restBuffer s used cycles b)
+refusal-told : (c : Checked) → Refusal c → toldCheck c ≡ some (toldRefusal c)
+refusal-told Sound r = absurd r
+refusal-told (Length k) r = refl
+refusal-told (Kind k) r = refl
+refusal-told (Value k) r = refl
+refusal-told (Time k) r = refl
 
-  given-refused : (r : Rested) {t : Told} → toldRest r ≡ refuses t → restRefusal s used cycles b ≡ some t → Gives r b
-  unfolding restAnswer restBuffer
-  given-refused r e f = (
-    e ∙ sym (ap (λ (x : Option Told). answerBy x (restOf s used cycles)) f),
-    sym (ap (λ (x : Option Told). bufferBy x (restOf s used cycles) b) f),
-  )
+module _ (s : List ℕ) (used cycles : ℕ) (b : List ℕ) where
+  abbrev rest : List ℕ
+  rest = restOf s used cycles
 
   -- the tests after the session's check
   abbrev room : Option Told
-  room = cond (ltb (length b) (length (restOf s used cycles))) (some (told 31 none)) none
+  room = cond (ltb (length b) (length rest)) (some (told 31 none)) none
 
   abbrev after : Option Told
   after = cond (hasFewer s used) (some (told 30 none)) room
 
-  -- 4 to 7, by the check of the session
-  pub given-checked : (r : Rested) (c : Checked) (t : Told) → toldRest r ≡ refuses t → toldCheck c ≡ some t → checkOf s ≡ c → Gives r b
+  -- each way that they can go
+  pub refused-checked : (c : Checked) → Refusal c → checkOf s ≡ c → restRefusal s used cycles b ≡ some (toldRefusal c)
   unfolding restRefusal
-  given-checked r c t e f g = given-refused r e (ap (λ (x : Option Told). firstOf x after) (ap toldCheck g ∙ f))
+  refused-checked c r e = ap (λ (x : Option Told). firstOf x after) (ap toldCheck e ∙ refusal-told c r)
+
+  module _ (sound : checkOf s ≡ Sound) where
+    past-check : restRefusal s used cycles b ≡ after
+    unfolding restRefusal
+    past-check = ap (λ (c : Checked). firstOf (toldCheck c) after) sound
+
+    pub refused-30 : hasFewer s used ≡ true → restRefusal s used cycles b ≡ some (told 30 none)
+    refused-30 h = past-check ∙ picks (some (told 30 none)) room h
+
+    module _ (enough : hasFewer s used ≡ false) where
+      pub refused-31 : length b < length rest → restRefusal s used cycles b ≡ some (told 31 none)
+      refused-31 l = past-check ∙ passes (some (told 30 none)) room enough ∙ picks _ _ (lt-ltb _ _ l)
+
+      pub not-refused : length rest ≤ length b → restRefusal s used cycles b ≡ none
+      not-refused l = past-check ∙ passes (some (told 30 none)) room enough ∙ passes _ _ (le-ltb _ _ l)
+
+  -- a result and a buffer that the contract admits
+  abbrev pub Gives : Rested → List ℕ → Type 0
+  Gives r left = (toldRest r ≡ restAnswer s used cycles b) × (left ≡ restBuffer s used cycles b)
+
+  given : (r : Rested) {t : Option Told} → toldRest r ≡ answerBy t rest → restRefusal s used cycles b ≡ t → Gives r (bufferBy t rest b)
+  unfolding restAnswer restBuffer
+  given r e f = (
+    e ∙ sym (ap (λ (x : Option Told). answerBy x rest) f),
+    sym (ap (λ (x : Option Told). bufferBy x rest b) f),
+  )
+
+  -- 4 to 7, by the check of the session
+  pub given-checked : (r : Rested) (c : Checked) → toldRest r ≡ refuses (toldRefusal c) → Refusal c → checkOf s ≡ c → Gives r b
+  given-checked r c e f g = given r e (refused-checked c f g)
 
   module _ (sound : checkOf s ≡ Sound) where
     -- 30
     pub given-fewer : none ≡ skipOf s used → Gives TooFew b
-    unfolding restRefusal
-    given-fewer e =
-        given-refused TooFew refl (ap (λ (x : Checked). firstOf (toldCheck x) after) sound ∙ picks (some (told 30 none)) room (skip-none s used e))
+    given-fewer e = given TooFew refl (refused-30 sound (skip-none s used e))
 
     module _ (at : ℕ) (e : some at ≡ skipOf s used) where
-      rest-here : restOf s used cycles ≡ restFrom s cycles at []
+      rest-here : rest ≡ restFrom s cycles at []
       unfolding restOf
       rest-here = ap (λ (k : ℕ). restFrom s cycles k []) (sym (skip-some s used at e .1))
 
-      rest-long : length (restOf s used cycles) ≡ length s - at
+      rest-long : length rest ≡ length s - at
       rest-long = ap length rest-here ∙ rest-length s cycles at (skipped-sound s used at sound e)
-
-      past-fewer : restRefusal s used cycles b ≡ room
-      unfolding restRefusal
-      past-fewer = ap (λ (x : Checked). firstOf (toldCheck x) after) sound ∙ passes (some (told 30 none)) room (skip-some s used at e .0)
 
       -- 31
       pub given-no-room : length b < length s - at → Gives NoRoom b
-      given-no-room h =
-          given-refused NoRoom refl (past-fewer ∙ picks _ _ (lt-ltb _ _ (let l = rest-long in let z : length b < length (restOf s used cycles) = omega arith in z)))
+      given-no-room h = let l = rest-long in given NoRoom refl (refused-31 sound (skip-some s used at e .0) (omega arith))
 
       -- the rest, and the bytes after it
-      pub given-written : length s - at ≤ length b → {after : List ℕ} → after ≡ restFrom s cycles at [] ++ drop (length s - at) b
-          → Gives (Written (length s - at)) after
-      unfolding restAnswer restBuffer
-      given-written h f =
+      pub given-written : length s - at ≤ length b → {left : List ℕ} → left ≡ restFrom s cycles at [] ++ drop (length s - at) b
+          → Gives (Written (length s - at)) left
+      given-written h {left} f =
           let l = rest-long in
-          let n : restRefusal s used cycles b ≡ none =
-          past-fewer ∙ passes _ _ (le-ltb _ _ (let z : length (restOf s used cycles) ≤ length b = omega arith in z)) in (
-            ap wrote (sym l) ∙ sym (ap (λ (x : Option Told). answerBy x (restOf s used cycles)) n),
+          let g = given (Written (length rest)) refl (not-refused sound (skip-some s used at e .0) (omega arith)) in (
+            ap wrote (sym l) ∙ g .0,
             f
                 ∙ ap (λ (k : ℕ). restFrom s cycles at [] ++ drop k b) (sym l)
-                ∙ ap (λ (r : List ℕ). r ++ drop (length (restOf s used cycles)) b) (sym rest-here)
-                ∙ sym (ap (λ (x : Option Told). bufferBy x (restOf s used cycles) b) n),
+                ∙ ap (λ (r : List ℕ). r ++ drop (length rest) b) (sym rest-here)
+                ∙ g .1,
           )

@@ -1,7 +1,7 @@
 -- The laws of the rest: its records one by one, its length, and what the copying of a record leaves. Assumes nothing.
 use Prim.Native.Nat.{ℕ, zero, suc, _+_, _-_, _≤_, _<_}
 use native.Mathlib.Omega.{arith}
-use mathlib.Core.List.{List, [], _∷_, _++_}
+use mathlib.Core.List.{List, [], _++_}
 use mathlib.Core.Path.{_≡_, refl, sym, ap, subst, _∙_}
 use mathlib.Core.Bool.{Bool, true, false, cond}
 use lib.Dec.{ltb}
@@ -15,7 +15,7 @@ use Rattle.boundary.proofs.Feeding.{next-after}
 use Rattle.rest.specs.Rest.{fourBytes, shiftedAt, Copied, copyTurn, restFrom}
 use Rattle.rest.specs.Ahead.{SoundFrom}
 use Rattle.rest.proofs.Lists.{sets-append, take-sets, drop-sets}
-use Rattle.rest.proofs.Places.{Whole, whole-at, sound-next}
+use Rattle.rest.proofs.Places.{whole-at, sound-next}
 
 -- what a turn that goes on goes on with
 abbrev OnMore : (Copied → Type 0) → Turn Copied (List ℕ) → Type 0

@@ -3,19 +3,19 @@
 use Prim.Native.Nat.{ℕ, zero, suc, _+_, _*_, _-_, _/_, _%_, _≤_, _<_}
 use native.Mathlib.Nat.{add-assoc}
 use native.Mathlib.Omega.{arith}
-use mathlib.Core.List.{List, [], _∷_, _++_, append-assoc, append-nil}
+use mathlib.Core.List.{List, [], _++_, append-assoc, append-nil}
 use mathlib.Core.Path.{_≡_, refl, sym, ap, subst, _∙_}
-use mathlib.Core.Bool.{Bool, true, false, _&&_, _||_, not}
-use lib.Dec.{leb, ltb, eqb}
+use mathlib.Core.Bool.{Bool, true, false}
+use lib.Dec.{leb, ltb}
 use lib.ListN.{length, getD, take, drop, length-append, length-drop, List·getD-append, List·getD-eq-default}
 use lib.Seq.{length-take-le, getD-append-add, getD-take, getD-drop}
 use borrow.Author.Tests.{ltb-true, ltb-false, lt-ltb, le-ltb, le-leb, lt-leb, leb-true, leb-false}
-use Rattle.session.specs.Session.{byteAt, lengthAt, kindAt, timeAt, payloadAt, nextAt, eventAt, dueAt, cutShort, faultAt, checkFrom, checkOf}
+use Rattle.session.specs.Session.{lengthAt, kindAt, timeAt, payloadAt, nextAt, eventAt, dueAt, cutShort, checkFrom, checkOf}
 use Rattle.session.specs.declared.Checked.the-variants.{Sound}
 use Rattle.session.proofs.Laws.{due-there, Fault, told-fault, check-past, check-ends}
 use Rattle.rest.specs.Rest.{fourBytes, shiftedAt, restFrom}
 use Rattle.rest.specs.Ahead.{SoundFrom}
-use Rattle.rest.proofs.Places.{Whole, whole, whole-at, sound-next}
+use Rattle.rest.proofs.Places.{whole, whole-at, sound-next}
 use Rattle.rest.proofs.Laws.{rest-more, rest-done, shifted-length, rest-length}
 
 module _ (s : List ℕ) (c : ℕ) where

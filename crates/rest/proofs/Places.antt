@@ -7,13 +7,12 @@ use native.Mathlib.Omega.{arith}
 use mathlib.Core.List.{List}
 use mathlib.Core.Logic.{⊎-elim}
 use mathlib.Core.Path.{_≡_, refl, sym, ap, _∙_}
-use mathlib.Core.Bool.{true, false, not}
 use mathlib.Core.Option.{none, some}
 use lib.ListN.{length}
 use borrow.Author.Tests.{eqb-true, eqb-false, not-false, lt-ltb, le-ltb}
 use Rattle.session.specs.Session.{lengthAt, kindAt, timeAt, nextAt, lengthFor, faultAt, checkFrom, checkOf}
 use Rattle.session.specs.declared.Checked.the-variants.{Sound}
-use Rattle.session.proofs.Laws.{Fault, fault-told, sound-or-not, check-stops, Step, sound-step}
+use Rattle.session.proofs.Laws.{Fault, fault-told, sound-or-not, check-stops, sound-step}
 use Rattle.boundary.proofs.Feeding.{next-after}
 use Rattle.rest.specs.Rest.{placeOf, hasFewer, skipOf}
 use Rattle.rest.specs.Ahead.{SoundFrom}

@@ -5,7 +5,6 @@ use mathlib.Core.List.{List, [], _∷_}
 use mathlib.Core.Option.{Option·getD}
 use mathlib.Core.Path.{_≡_, refl, sym, _∙_}
 use lib.ListN.{getD}
-use Rattle.cabinet.specs.Replies.{Told}
 use Rattle.cabinet.proofs.Known.{known}
 use Rattle.rest.specs.Answers.{Answer, wrote, refuses, toldRest}
 use Rattle.rest.specs.declared.Rested.{Rested}

@@ -8,7 +8,7 @@ use Rattle.turns.specs.Turn.{turns, loopOf}
 use Rattle.session.specs.Session.{lengthAt, kindAt, timeAt, payloadAt, nextAt, lengthFor, fits, cutShort, firstFault, faultAt, turnOf, checkFrom}
 use Rattle.cabinet.specs.Replies.{told}
 use Rattle.rest.specs.Rest.{placeOf, hasFewer, shiftedAt, restFrom, restOf}
-use Rattle.rest.specs.Answers.{Answer, wrote, refuses, restRefusal, restAnswer, restBuffer}
+use Rattle.rest.specs.Answers.{wrote, refuses, restRefusal, restAnswer, restBuffer}
 
 -- NMI at 3, port 1 pins at 4, a received byte at 70,000
 abbrev session : List ℕ

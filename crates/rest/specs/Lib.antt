@@ -1,3 +1,4 @@
 pub mod Rest
 pub mod Answers
 pub mod Ahead
+pub mod Joined

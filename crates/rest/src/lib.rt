@@ -3,11 +3,11 @@ use session::Checked;
 ghost use mathlib.Core.Path.{_≡_};
 ghost use mathlib.Core.List.{[], _++_};
 ghost use Prim.Native.Nat.{_+_, _-_, _≤_};
-ghost use lib.ListN.{length, take, drop};
+ghost use lib.ListN.{length, drop};
 ghost use lib.Seq.{sets};
-ghost use Rattle.session.specs.Session.{nextAt, timeAt, checkOf};
+ghost use Rattle.session.specs.Session.{nextAt, checkOf};
 ghost use Rattle.session.specs.declared.Checked.the-variants.{Sound};
-ghost use Rattle.rest.specs.Rest.{fourBytes, skipOf, skipped, shiftedAt, restFrom, restOf};
+ghost use Rattle.rest.specs.Rest.{fourBytes, skipOf, skipped, shiftedAt, restFrom};
 ghost use Rattle.rest.specs.Ahead.{SoundFrom};
 ghost use Rattle.rest.specs.Answers.{toldRest, restAnswer, restBuffer};
 

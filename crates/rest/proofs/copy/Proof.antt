@@ -1,7 +1,7 @@
 -- `rest::copy` meets its contract: each turn stores one byte more. Assumes nothing.
 use Prim.Native.Nat.{_+_, _-_, _≤_}
 use native.Mathlib.Omega.{arith}
-use mathlib.Core.Path.{_≡_, refl, sym, ap, _∙_}
+use mathlib.Core.Path.{_≡_, refl, sym, _∙_}
 use lib.ListN.{length, drop, length-set}
 use lib.Seq.{sets}
 use Rattle.rest.proofs.Lists.{sets-more, sets-all}

@@ -1,7 +1,6 @@
 -- `rest::copy_records` meets its contract: each turn copies one record more. Assumes nothing.
-use Prim.Native.Nat.{_+_, _-_, _≤_}
+use Prim.Native.Nat.{_-_}
 use native.Mathlib.Omega.{arith}
-use mathlib.Core.Path.{_≡_, refl, sym, ap, _∙_}
 use lib.ListN.{length}
 use Rattle.boundary.proofs.Feeding.{next-after}
 use Rattle.rest.proofs.Places.{whole-at}

@@ -1,8 +1,7 @@
 -- `rest::skip` meets its contract: each turn is at the place after one record more. Assumes nothing.
-use Prim.Native.Nat.{_+_, _-_, _≤_}
+use Prim.Native.Nat.{_-_, _≤_}
 use native.Mathlib.Omega.{arith}
 use mathlib.Core.Path.{_≡_, refl, sym, ap, _∙_}
-use lib.ListN.{length}
 use Rattle.session.specs.Session.{nextAt}
 use Rattle.rest.specs.Rest.{placeOf}
 use Rattle.rest.specs.Ahead.{SoundFrom}
