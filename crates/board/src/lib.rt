@@ -74,8 +74,8 @@ pub extern "C" fn pliruzza_run_single(
     match loaded {
         Loaded::Ready(m) => {
             let ran = cabinet::run_single(image, m, session, n, output);
-            let left = ran.machine;
-            saved::save(left, machine);
+            let stopped = ran.machine;
+            saved::save(stopped, machine);
             results::report_single(ran, result)
         }
         Loaded::WrongLength => 26,
@@ -108,8 +108,8 @@ pub extern "C" fn pliruzza_run_leaping(
     match loaded {
         Loaded::Ready(m) => {
             let leapt = cabinet::run_leaping(image, m, session, n, output);
-            let left = leapt.ran.machine;
-            saved::save(left, machine);
+            let landed = leapt.ran.machine;
+            saved::save(landed, machine);
             results::report_leaping(leapt, result)
         }
         Loaded::WrongLength => 26,
