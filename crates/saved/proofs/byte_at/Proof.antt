@@ -1,0 +1,14 @@
+-- `saved::byte_at` meets its contract: past the end the definition reads 0 too. Assumes nothing.
+use mathlib.Core.Path.{sym}
+use lib.ListN.{List·getD-eq-default}
+use borrow.Author.Needs.{needs}
+use Rattle.saved.proofs.byte_at.Statement.{statement}
+use Rattle.saved.proofs.byte_at.Tie as tie
+
+pub byte-at-spec : {M : Type 1} → statement M
+byte-at-spec =
+    tie.close
+    (tie.spec
+    (λ c. search needs)  -- shared-slice-read-result
+    (λ c. search needs)  -- returns
+    (λ c. sym (List·getD-eq-default (c .before .args .bytes .now) 0 (c .if1 .left))))  -- returns-2

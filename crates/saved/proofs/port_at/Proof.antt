@@ -1,0 +1,15 @@
+-- `saved::port_at` meets its contract: each byte is read at its place. Assumes nothing.
+use borrow.Author.Needs.{needs}
+use Rattle.saved.proofs.port_at.Statement.{statement}
+use Rattle.saved.proofs.port_at.Tie as tie
+
+pub port-at-spec : {M : Type 1} → statement M
+port-at-spec =
+    tie.close
+    (tie.spec
+    (λ c κs. search needs)  -- byte-at-requires
+    (λ c. search needs)  -- add-result
+    (λ c κs. search needs)  -- byte-at-requires-2
+    (λ c. search needs)  -- add-result-2
+    (λ c κs. search needs)  -- byte-at-requires-3
+    (λ c. rw (c .byte-at3 .ensures, c .before .byte-at2 .ensures, c .before .before .byte-at .ensures)))  -- returns
