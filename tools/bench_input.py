@@ -75,4 +75,5 @@ def main():
     (ROOT / "crates/bench_cases/stdout").write_text("".join(line for _, line in cases))
 
 
-main()
+if __name__ == "__main__":
+    main()

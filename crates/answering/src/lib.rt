@@ -32,7 +32,7 @@ fn counts(line: Line, reply: u8, ran: Ran) -> Line
 }
 
 // The registers, in hexadecimal.
-fn registers(line: Line, c: Cpu) -> Line
+pub fn registers(line: Line, c: Cpu) -> Line
     ensures { λ r. ⌜ r ≡ putsOf line (registersText c) ⌝ }
 {
     line.text(b" pc ")
@@ -55,13 +55,13 @@ fn stopped(reply: u8, ran: Ran) -> Line
     registers(counts(Line::empty(), reply, ran), ran.machine.chip.cpu)
 }
 
-fn refused(reply: u8) -> Line
+pub fn refused(reply: u8) -> Line
     ensures { λ r. ⌜ r ≡ putsOf emptyLine (refusedText reply none) ⌝ }
 {
     Line::empty().text(b"refused ").decimal(reply as u64)
 }
 
-fn refused_record(reply: u8, number: usize) -> Line
+pub fn refused_record(reply: u8, number: usize) -> Line
     ensures { λ r. ⌜ r ≡ putsOf emptyLine (refusedText reply (some number)) ⌝ }
 {
     refused(reply).text(b" record ").decimal(number as u64)
