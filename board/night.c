@@ -153,7 +153,7 @@ static const char *alike(const struct lent *a, const struct lent *b) {
  * first byte's handler: 4 + 3 + 3 cycles after 2,000, two late. They leave the same image, machine and output. */
 static void compare_runs(const uint8_t *machine) {
     static struct lent single, leaping, sliced;
-    uint8_t rest[sizeof stretch], told[8];
+    uint8_t rest[sizeof stretch], told[PLIRUZZA_REST];
     lend(&single, machine);
     lend(&leaping, machine);
     lend(&sliced, machine);
@@ -174,7 +174,7 @@ static void compare_runs(const uint8_t *machine) {
 }
 
 static void refuse_rest(size_t length, size_t used, size_t rest_length, size_t told_length) {
-    uint8_t rest[sizeof stretch], told[8];
+    uint8_t rest[sizeof stretch], told[PLIRUZZA_REST];
     memset(rest, 0xEE, sizeof rest);
     memset(told, 0xEE, sizeof told);
     uint32_t reply = pliruzza_rest(stretch, length, used, 2010, rest, rest_length, told, told_length);
