@@ -1,7 +1,1 @@
-pub mod Known
 pub mod Ends
-pub mod Stops
-pub mod Exactly
-pub mod Given
-pub mod Left
-pub mod Settled

@@ -1,30 +1,34 @@
--- What each public call answers, for all inputs.
+-- What the two runs answer, for all inputs.
 use Prim.Native.Nat.{ℕ}
 use mathlib.Core.Bool.{cond, not}
-use mathlib.Core.List.{List}
 use mathlib.Core.Option.{Option, none, some}
 use lib.Dec.{eqb, ltb}
 use lib.ListN.{length}
-use Rattle.opcodes.specs.declared.Instruction.{Instruction}
-use Rattle.opcodes.specs.Opcodes.{decodeOf}
 use Rattle.session.specs.Session.{checkOf}
+use Rattle.replies.specs.Replies.{Told, told, toldReply, toldCheck}
 use Rattle.machine.specs.declared.Machine.{Machine}
-use Rattle.machine.specs.Machine.{rangesOf, powerOnOf}
-use Rattle.boundary.specs.Boundary.{World, Ended, worldOf}
+use Rattle.machine.specs.Machine.{rangesOf}
+use Rattle.boundary.specs.declared.Stop.{Stop}
+use Rattle.boundary.specs.Boundary.{Lent, Terms, World, Ended, worldOf, stopNumber}
 use Rattle.boundary.specs.Start.{startWorld, ranOf}
 use Rattle.cabinet.specs.declared.Ran.{Ran}
 use Rattle.cabinet.specs.declared.Ending.{Ending}
-use Rattle.cabinet.specs.Replies.{Told, told, toldReply, toldCheck, toldStop, Given, toldPower, toldDecoded}
+use Rattle.cabinet.specs.declared.Admission.{Admission}
+use Rattle.cabinet.specs.declared.Admission.the-variants.{Admitted, Refused}
 
 -- "1, 2, 3 are tested in that order, then the session from the front": the reply that refuses a run, where one does
-unfoldable pub refusalOf : List ℕ → Machine → List ℕ → ℕ → Option Told
-refusalOf image m session n =
-    cond (not (eqb (length image) 65536)) (some (told 1 none))
+unfoldable pub refusalOf : Terms → Machine → Lent → Option Told
+refusalOf t m l =
+    cond (not (eqb (length (l .image)) 65536)) (some (told 1 none))
     (cond (not (rangesOf m)) (some (told 2 none))
-    (cond (ltb 1000000000 n) (some (told 3 none))
-    (toldCheck (checkOf session))))
+    (cond (ltb 1000000000 (t .limit)) (some (told 3 none))
+    (toldCheck (checkOf (t .session)))))
 
--- how a run ends: its reply, and the machine with the counts, the image and the output as it leaves them
+-- what a run stops with: 0, 8 or 9
+abbrev pub toldStop : Stop → Told
+toldStop s = told (stopNumber s) none
+
+-- how a run ends: its reply, and the machine with the counts and what was lent, as it leaves them
 pub record End : Type 0 where
   pub reply : Told
   pub world : World
@@ -37,9 +41,8 @@ abbrev pub onRefusal : Option Told → World → Ended → End
 onRefusal (some r) start e = endAt r start
 onRefusal none start e = endAt (toldStop (e .stop)) (e .world)
 
-unfoldable pub endOf : List ℕ → Machine → List ℕ → ℕ → List ℕ → End
-endOf image m session n output =
-    onRefusal (refusalOf image m session n) (startWorld m image output) (ranOf session n m image output)
+unfoldable pub endOf : Terms → Machine → Lent → End
+endOf t m l = onRefusal (refusalOf t m l) (startWorld m l) (ranOf t m l)
 
 -- what both runs answer: "the reply, the machine, all counts and every byte of image and output"
 pub record Answer : Type 0 where
@@ -50,8 +53,7 @@ pub record Answer : Type 0 where
   pub entries : ℕ
   pub used : ℕ
   pub sent : ℕ
-  pub image : List ℕ
-  pub output : List ℕ
+  pub lent : Lent
 
 abbrev pub answerAt : End → Answer
 answerAt e =
@@ -64,20 +66,19 @@ answerAt e =
       entries = s .entries .0;
       used = s .used .0;
       sent = s .sent .0;
-      image = e .world .image;
-      output = e .world .output;
+      lent = e .world .lent;
     }
 
-abbrev pub answerOf : List ℕ → Machine → List ℕ → ℕ → List ℕ → Answer
-answerOf image m session n output = answerAt (endOf image m session n output)
+abbrev pub answerOf : Terms → Machine → Lent → Answer
+answerOf t m l = answerAt (endOf t m l)
 
 -- "The leaping run reports how many there were"
-abbrev pub leapsOf : List ℕ → Machine → List ℕ → ℕ → List ℕ → ℕ
-leapsOf image m session n output = endOf image m session n output .world .state .leaps .0
+abbrev pub leapsOf : Terms → Machine → Lent → ℕ
+leapsOf t m l = endOf t m l .world .state .leaps .0
 
 -- the code's results, in these words
-abbrev pub answered : Ran → List ℕ → List ℕ → Answer
-answered r image output =
+abbrev pub answered : Ran → Lent → Answer
+answered r l =
     record {
       reply = toldReply (r .reply);
       machine = r .machine;
@@ -86,21 +87,26 @@ answered r image output =
       entries = r .entries .0;
       used = r .used .0;
       sent = r .sent .0;
-      image = image;
-      output = output;
+      lent = l;
     }
 
 abbrev pub reportOf : Ending → Ran
 reportOf e =
     let s = e .state in
-    record { reply = e .reply; machine = s .machine; cycles = s .cycles; instructions = s .instructions; entries = s .entries; used = s .used; sent = s .sent }
+    record {
+      reply = e .reply;
+      machine = s .machine;
+      cycles = s .cycles;
+      instructions = s .instructions;
+      entries = s .entries;
+      used = s .used;
+      sent = s .sent;
+    }
 
-abbrev pub endedWith : Ending → List ℕ → List ℕ → End
-endedWith e image output = endAt (toldReply (e .reply)) (worldOf (e .state) image output)
+abbrev pub endedWith : Ending → Lent → End
+endedWith e l = endAt (toldReply (e .reply)) (worldOf (e .state) l)
 
--- power-on, and the question about one opcode
-abbrev pub powerAnswer : List ℕ → ℕ → Given Machine
-powerAnswer image r = toldPower (powerOnOf image r)
-
-abbrev pub opcodeAnswer : ℕ → Given Instruction
-opcodeAnswer opcode = toldDecoded (decodeOf opcode)
+-- a refusal, where there is one
+abbrev pub toldAdmission : Admission → Option Told
+toldAdmission Admitted = none
+toldAdmission (Refused r) = some (toldReply r)

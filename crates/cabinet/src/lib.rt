@@ -1,35 +1,28 @@
 // The public calls: power-on, the two runs, the question about one opcode, and the filled part of a lent output.
-use boundary::Cycles;
-use boundary::Entries;
-use boundary::Instructions;
-use boundary::Leaps;
-use boundary::Records;
-use boundary::Sent;
 use boundary::State;
 use boundary::Stop;
+use counts::Cycles;
+use counts::Entries;
+use counts::Instructions;
+use counts::Leaps;
+use counts::Records;
+use counts::Sent;
 use machine::Machine;
 use machine::Power;
 use opcodes::Decoded;
+use replies::Reply;
 use session::Checked;
 ghost use mathlib.Core.Path.{_≡_};
+ghost use mathlib.Core.List.{List};
+ghost use Prim.Native.Nat.{ℕ};
 ghost use lib.ListN.{take};
+ghost use Rattle.asking.specs.Asking.{toldDecoded, opcodeAnswer};
+ghost use Rattle.power.specs.Power.{toldPower, powerAnswer};
+ghost use Rattle.replies.specs.Replies.{toldReply, toldCheck};
+ghost use Rattle.boundary.specs.Boundary.{lent, terms};
 ghost use Rattle.boundary.specs.Start.{startOf};
-ghost use Rattle.cabinet.specs.Replies.{toldReply, toldAdmission, toldCheck, toldStop, toldPower, toldDecoded};
-ghost use Rattle.cabinet.specs.Answers.{refusalOf, endedWith, endOf, reportOf, answered, answerOf, leapsOf, powerAnswer, opcodeAnswer};
-
-// 01's replies 0 to 9, in order; 4 to 7 name the record, counted from 0.
-pub enum Reply {
-    Limit,
-    WrongImage,
-    WrongMachine,
-    WrongLimit,
-    Length(usize),
-    Kind(usize),
-    Value(usize),
-    Time(usize),
-    Undefined,
-    Full,
-}
+ghost use Rattle.cabinet.specs.Answers.{refusalOf, toldAdmission, toldStop, endedWith, endOf};
+ghost use Rattle.cabinet.specs.Answers.{reportOf, answered, answerOf, leapsOf};
 
 // What both runs report.
 pub struct Ran {
@@ -82,16 +75,13 @@ fn verdict(c: Checked) -> Admission
 {
     match c {
         Checked::Sound => Admission::Admitted,
-        Checked::Length(k) => Admission::Refused(Reply::Length(k)),
-        Checked::Kind(k) => Admission::Refused(Reply::Kind(k)),
-        Checked::Value(k) => Admission::Refused(Reply::Value(k)),
-        Checked::Time(k) => Admission::Refused(Reply::Time(k)),
+        Checked::Bad(fault) => Admission::Refused(replies::refusal(fault)),
     }
 }
 
 // The tests of 1, 2 and 3, then the session from the front.
 fn admit(image: &[u8], m: Machine, session: &[u8], n: u32) -> Admission
-    ensures { λ r. ⌜ toldAdmission r ≡ refusalOf (now (image .entry)) m (now (session .entry)) n ⌝ }
+    ensures { λ r. ⌜ ((o : List ℕ) → toldAdmission r ≡ refusalOf (terms (now (session .entry)) n) m (lent (now (image .entry)) o)) ⌝ }
 {
     let wrong_machine = !m.in_ranges();
     let wrong_limit = n > 1000000000;
@@ -127,7 +117,8 @@ fn end(
     n: u32,
     output: &mut [u8],
 ) -> Ending
-    ensures { λ r. ⌜ endedWith r (now (image .exit)) (now (output .exit)) ≡ endOf (now (image .entry)) m (now (session .entry)) n (now (output .entry)) ⌝ }
+    ensures { λ r. ⌜ endedWith r (lent (now (image .exit)) (now (output .exit)))
+        ≡ endOf (terms (now (session .entry)) n) m (lent (now (image .entry)) (now (output .entry))) ⌝ }
 {
     let start = start(m);
     let admission = admit(&image[..], m, session, n);
@@ -176,19 +167,22 @@ impl Ending {
 pub fn power_on(image: &[u8], r: u32) -> Power
     ensures { λ p. ⌜ toldPower p ≡ powerAnswer (now (image .entry)) r ⌝ }
 {
-    machine::power_on(image, r)
+    power::power_on(image, r)
 }
 
 // The single run: each waiting cycle is a boundary of its own.
 pub fn run_single(image: &mut [u8], m: Machine, session: &[u8], n: u32, output: &mut [u8]) -> Ran
-    ensures { λ r. ⌜ answered r (now (image .exit)) (now (output .exit)) ≡ answerOf (now (image .entry)) m (now (session .entry)) n (now (output .entry)) ⌝ }
+    ensures { λ r. ⌜ answered r (lent (now (image .exit)) (now (output .exit)))
+        ≡ answerOf (terms (now (session .entry)) n) m (lent (now (image .entry)) (now (output .entry))) ⌝ }
 {
     end(false, image, m, session, n, output).report()
 }
 
 // The leaping run: the same answer, and how many leaps there were.
 pub fn run_leaping(image: &mut [u8], m: Machine, session: &[u8], n: u32, output: &mut [u8]) -> Leapt
-    ensures { λ r. ⌜ (answered (r .ran) (now (image .exit)) (now (output .exit)) ≡ answerOf (now (image .entry)) m (now (session .entry)) n (now (output .entry))) × (r .leaps .0 ≡ leapsOf (now (image .entry)) m (now (session .entry)) n (now (output .entry))) ⌝ }
+    ensures { λ r. ⌜ (answered (r .ran) (lent (now (image .exit)) (now (output .exit)))
+        ≡ answerOf (terms (now (session .entry)) n) m (lent (now (image .entry)) (now (output .entry))))
+        × (r .leaps .0 ≡ leapsOf (terms (now (session .entry)) n) m (lent (now (image .entry)) (now (output .entry)))) ⌝ }
 {
     let e = end(true, image, m, session, n, output);
     let leaps = e.state.leaps.0;
@@ -202,15 +196,12 @@ pub fn run_leaping(image: &mut [u8], m: Machine, session: &[u8], n: u32, output:
 pub fn ask(opcode: u8) -> Decoded
     ensures { λ r. ⌜ toldDecoded r ≡ opcodeAnswer opcode ⌝ }
 {
-    opcodes::decode(opcode)
+    asking::ask(opcode)
 }
 
 // The filled part of an output: its first `sent` bytes, or all of it where there are no more.
 pub fn filled(output: &[u8], sent: usize) -> &[u8]
     ensures { λ r. ⌜ now r ≡ take sent (now (output .entry)) ⌝ }
 {
-    if sent <= output.len() {
-        return &output[..sent];
-    }
-    output
+    asking::filled(output, sent)
 }

@@ -1,6 +1,6 @@
 use borrow.Author.Needs.{needs}
 use mathlib.Core.Path.{sym, ap}
-use Rattle.cabinet.specs.Replies.{toldStop}
+use Rattle.cabinet.specs.Answers.{toldStop}
 use Rattle.cabinet.proofs.stopped.Statement.{statement}
 use Rattle.cabinet.proofs.stopped.Tie as tie
 

@@ -1,8 +1,8 @@
 use borrow.Author.Needs.{needs}
 use mathlib.Core.Path.{ap}
-use Rattle.cabinet.specs.Replies.{toldDecoded}
-use Rattle.cabinet.proofs.ask.Statement.{statement}
-use Rattle.cabinet.proofs.ask.Tie as tie
+use Rattle.asking.specs.Asking.{toldDecoded}
+use Rattle.asking.proofs.ask.Statement.{statement}
+use Rattle.asking.proofs.ask.Tie as tie
 
 pub ask-spec : {M : Type 1} → statement M
 ask-spec =

@@ -1,20 +1,23 @@
--- When power-on and the question about one opcode give a reply, in 01's words, and when they give a value. Assumes nothing.
+-- When power-on gives a reply, in 01's words, and when it gives a machine; any two results that its contract admits are equal.
+-- Assumes nothing.
 use Prim.Native.Nat.{ℕ, _≤_, _<_}
 use native.Mathlib.Omega.{arith}
-use mathlib.Core.Path.{_≡_, refl, ap}
+use mathlib.Core.Path.{_≡_, refl, sym, ap, _∙_}
+use mathlib.Core.Bool.{cond}
 use mathlib.Core.List.{List}
 use mathlib.Core.Logic.{_↔_}
+use lib.Dec.{eqb}
 use lib.ListN.{length}
-use Rattle.opcodes.specs.declared.Instruction.{Instruction}
-use Rattle.opcodes.specs.declared.Decoded.the-variants as decoded
-use Rattle.opcodes.specs.Opcodes.{decodeOf}
+use Rattle.bus.specs.Access.{memories}
+use Rattle.machine.specs.declared.Machine.{Machine}
 use Rattle.machine.specs.declared.Power.{Power}
+use Rattle.machine.specs.declared.Power.the-variants.{On, WrongImage, WrongStart}
 use Rattle.machine.specs.Machine.{Ranges, resetOf, cold}
 use Rattle.machine.proofs.Ranges.{ranges-say, power-ranges}
 use Rattle.machine.proofs.PowerOn.{power-cases, machine-given}
-use Rattle.cabinet.specs.Replies.{Given, gives, replies, toldPower, toldDecoded}
-use Rattle.cabinet.specs.Answers.{powerAnswer, opcodeAnswer}
-use Rattle.cabinet.proofs.Known.{decoded-known}
+use Rattle.laws.proofs.Known.{known}
+use Rattle.asking.specs.Asking.{Given, gives, replies}
+use Rattle.power.specs.Power.{toldPower, powerAnswer}
 
 -- a reply's number; 0 stands for a value
 abbrev number : {A : Type 0} → Given A → ℕ
@@ -43,17 +46,27 @@ module _ (image : List ℕ) (r : ℕ) where
         (λ l h d. (l, h))
         (λ l h d. absurd (let z : ⊥ = omega arith in z))
         (ap number e)),
-    (λ q. power-cases (λ (p : Power). toldPower p ≡ replies 2) image r (λ l. absurd (l (q .0))) (λ _ _. refl) (λ _ h. absurd (let l = q .1 in let z : ⊥ = omega arith in z))),
+    (λ q.
+        power-cases (λ (p : Power). toldPower p ≡ replies 2) image r (λ l. absurd (l (q .0))) (λ _ _. refl)
+        (λ _ h. absurd (let l = q .1 in let z : ⊥ = omega arith in z))),
   )
 
   -- else a machine, in its ranges
-  pub power-gives : length image ≡ 65536 → r ≤ 65536 → (powerAnswer image r ≡ gives (resetOf image (cold r))) × Ranges (resetOf image (cold r) .chip .bus)
+  pub power-gives : let m = resetOf (memories image) (cold r) in
+      length image ≡ 65536 → r ≤ 65536 → (powerAnswer image r ≡ gives m) × Ranges (m .chip .bus)
   power-gives l h = let e = machine-given image r l h in (ap toldPower e, ranges-say _ (power-ranges image r _ e))
 
--- 8: "the opcode .. is undefined"
-pub ask-8 : (opcode : ℕ) → (opcodeAnswer opcode ≡ replies 8) ↔ (decodeOf opcode ≡ decoded.Undefined)
-ask-8 opcode = (decoded-known (decodeOf opcode) decoded.Undefined, ap toldDecoded)
+abbrev powerBack : Given Machine → Power
+powerBack (gives m) = On m
+powerBack (replies k) = cond (eqb k 1) WrongImage WrongStart
 
--- else operation, operand place, length and cycles
-pub ask-gives : (opcode : ℕ) (i : Instruction) → (opcodeAnswer opcode ≡ gives i) ↔ (decodeOf opcode ≡ decoded.Defined i)
-ask-gives opcode i = (decoded-known (decodeOf opcode) (decoded.Defined i), ap toldDecoded)
+power-known : (a b : Power) → toldPower a ≡ toldPower b → a ≡ b
+power-known = known toldPower powerBack back
+  where
+    back : (a : Power) → powerBack (toldPower a) ≡ a
+    back (On m) = refl
+    back WrongImage = refl
+    back WrongStart = refl
+
+pub power-settled : (image : List ℕ) (r : ℕ) (p p′ : Power) → toldPower p ≡ powerAnswer image r → toldPower p′ ≡ powerAnswer image r → p ≡ p′
+power-settled image r p p′ e e′ = power-known p p′ (e ∙ sym e′)

@@ -9,25 +9,22 @@ use lib.Dec.{leb, eqb}
 use lib.ListN.{length}
 use borrow.Author.Tests.{leb-true, leb-false, eqb-true}
 use Rattle.turns.specs.Turn.{Turn}
-use Rattle.opcodes.specs.declared.Decoded.the-variants as decoded
-use Rattle.opcodes.specs.Opcodes.{decodeOf}
-use Rattle.opcodes.proofs.Bounds.{bounds}
 use Rattle.serial.specs.Serial.{wantsToSend, sentOf}
 use Rattle.machine.specs.declared.Machine.{Machine}
 use Rattle.machine.specs.declared.Pending.{Pending}
 use Rattle.machine.specs.declared.Pending.the-variants.{Nothing, Due}
 use Rattle.machine.specs.Interrupts.{pendingOf}
-use Rattle.machine.specs.Steps.{Stepped, instructed, stepOf}
-use Rattle.machine.proofs.Steps.{opcodeRead, step-cases}
+use Rattle.machine.specs.declared.Look.{Look}
+use Rattle.machine.specs.declared.Look.the-variants as look
+use Rattle.machine.specs.Steps.{lookOf}
 use Rattle.boundary.specs.declared.State.{State}
 use Rattle.boundary.specs.declared.Stop.{Stop}
 use Rattle.boundary.specs.declared.Stop.the-variants.{Limit, Undefined, Full}
 use Rattle.boundary.specs.Boundary.{World, Ended, worldOf, recordsOf, sendsOf, sentState, sentWorld, onPending, actOf, sendOf, boundaryOf, runOf}
-use Rattle.boundary.proofs.Picks.{cases}
+use Rattle.laws.proofs.Conds.{cases}
 use Rattle.boundary.proofs.Cases.{records-cycles}
 use Rattle.boundary.proofs.Runs.{Then, run-keeps}
-use Rattle.cabinet.specs.Replies.{toldStop}
-use Rattle.cabinet.specs.Answers.{Answer, endAt, answerAt}
+use Rattle.cabinet.specs.Answers.{Answer, toldStop, endAt, answerAt}
 
 -- 0: "the cycle limit N is reached"; 8: "the opcode to be executed is undefined", so no byte is to be sent, no interrupt to be
 -- accepted and the machine does not wait; 9: "a byte is to be sent and the output has no room"
@@ -37,9 +34,9 @@ Shows n Undefined a =
     (a .cycles < n)
     × (wantsToSend (a .machine .chip .bus .serial) ≡ false)
     × (pendingOf (a .machine) ≡ Nothing)
-    × (a .machine .chip .cpu .waiting ≡ false)
-    × (decodeOf (opcodeRead (a .image) (a .machine) .value) ≡ decoded.Undefined)
-Shows n Full a = (a .cycles < n) × (wantsToSend (a .machine .chip .bus .serial) ≡ true) × (length (a .output) ≤ a .sent)
+    × (idles (a .machine .chip .cpu) ≡ false)
+    × (lookOf (memoriesIn (a .lent)) (a .machine) ≡ look.Undefined)
+Shows n Full a = (a .cycles < n) × (wantsToSend (a .machine .chip .bus .serial) ≡ true) × (length (a .lent .output) ≤ a .sent)
 
 pub shown-once : (n : ℕ) (j k : Stop) (a : Answer) → Shows n j a → Shows n k a → j ≡ k
 shown-once n Limit Limit a p q = refl
@@ -52,14 +49,6 @@ shown-once n Full Limit a p q = absurd (let l = p .0 in let z : ⊥ = omega arit
 shown-once n Full Undefined a p q = absurd (true≢false (sym (p .1) ∙ q .1))
 shown-once n Full Full a p q = refl
 
--- a step of no cycles has met an undefined opcode
-undefined-read : (memory : List ℕ) (m : Machine) → stepOf memory m .cycles ≡ 0 → decodeOf (opcodeRead memory m .value) ≡ decoded.Undefined
-unfolding instructed
-undefined-read memory m =
-    step-cases (λ (s : Stepped). s .cycles ≡ 0 → decodeOf (opcodeRead memory m .value) ≡ decoded.Undefined) memory m
-    (λ e z. e)
-    (λ i e z. let b = bounds _ i e .1 .0 in absurd (let w : ⊥ = omega (arith, b, z) in w))
-
 -- a byte that was sent is not to be sent again: TDRE is set
 sent-rests : (s : State) → sendsOf (sentState s) ≡ false
 unfolding sentState wantsToSend sentOf
@@ -69,38 +58,41 @@ sent-rests s = by (s .machine .chip .bus .serial .te) _
     by true idle = refl
     by false idle = refl
 
-module _ (session : List ℕ) (n : ℕ) where
+module _ (asked : Terms) where
   abbrev Ends : Ended → Type 0
-  Ends e = Shows n (e .stop) (answerAt (endAt (toldStop (e .stop)) (e .world)))
+  Ends e = Shows (asked .limit) (e .stop) (answerAt (endAt (toldStop (e .stop)) (e .world)))
 
   abbrev EndsThen : Turn World Ended → Type 0
   EndsThen = Then (λ v. Unit {0}) Ends
 
-  act-shows : (w : World) → w .state .cycles .0 < n → sendsOf (w .state) ≡ false → EndsThen (actOf w)
+  act-shows : (w : World) → w .state .cycles .0 < asked .limit → sendsOf (w .state) ≡ false → EndsThen (actOf w)
   unfolding actOf
   act-shows w l s = by (pendingOf (w .state .machine)) refl
     where
       by : (p : Pending) → pendingOf (w .state .machine) ≡ p → EndsThen (onPending p w)
       by (Due cause) e = tt
       by Nothing e =
-          cases EndsThen (w .state .machine .chip .cpu .waiting) (λ _. tt)
-          (λ f. cases EndsThen (eqb (stepOf (w .image) (w .state .machine) .cycles) 0)
-          (λ g. (l, s, e, f, undefined-read (w .image) (w .state .machine) (eqb-true _ _ g)))
-          (λ _. tt))
+          cases EndsThen (idles (w .state .machine .chip .cpu)) (λ _. tt)
+          (λ f. looked f (lookOf (memoriesIn (w .lent)) (w .state .machine)) refl)
+        where
+          looked : idles (w .state .machine .chip .cpu) ≡ false
+              → (k : Look) → lookOf (memoriesIn (w .lent)) (w .state .machine) ≡ k → EndsThen (executedOf k w)
+          looked f look.Undefined g = (l, s, e, f, g)
+          looked f (look.Runs i) g = tt
 
-  turn-shows : (w : World) → EndsThen (boundaryOf session n w)
+  turn-shows : (w : World) → EndsThen (boundaryOf asked w)
   unfolding boundaryOf sendOf sentState
   turn-shows w =
-      let f = recordsOf session (w .image) (w .state) in
-      let r = worldOf f (w .image) (w .output) in
-      let c = records-cycles session (w .image) (w .state) in
-      cases EndsThen (leb n (w .state .cycles .0))
+      let f = recordsOf asked (w .lent) (w .state) in
+      let r = worldOf f (w .lent) in
+      let c = records-cycles asked (w .lent) (w .state) in
+      cases EndsThen (leb (asked .limit) (w .state .cycles .0))
       (λ e. leb-true _ _ e)
-      (λ e. let l = leb-false n (w .state .cycles .0) e in
-      let b : f .cycles .0 < n = omega arith in
+      (λ e. let l = leb-false (asked .limit) (w .state .cycles .0) e in
+      let b : f .cycles .0 < asked .limit = omega arith in
       cases EndsThen (sendsOf f)
-      (λ s. cases EndsThen (leb (length (w .output)) (f .sent .0)) (λ g. (b, s, leb-true _ _ g)) (λ _. act-shows (sentWorld r) b (sent-rests f)))
+      (λ s. cases EndsThen (leb (length (w .lent .output)) (f .sent .0)) (λ g. (b, s, leb-true _ _ g)) (λ _. act-shows (sentWorld r) b (sent-rests f)))
       (λ s. act-shows r b s))
 
-  pub stop-shows : (w : World) → Ends (runOf session n w)
-  stop-shows w = run-keeps session n (λ v. Unit {0}) Ends (λ v _. turn-shows v) w tt
+  pub stop-shows : (w : World) → Ends (runOf asked w)
+  stop-shows w = run-keeps asked (λ v. Unit {0}) Ends (λ v _. turn-shows v) w tt

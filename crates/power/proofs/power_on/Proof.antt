@@ -1,8 +1,8 @@
 use borrow.Author.Needs.{needs}
 use mathlib.Core.Path.{ap}
-use Rattle.cabinet.specs.Replies.{toldPower}
-use Rattle.cabinet.proofs.power_on.Statement.{statement}
-use Rattle.cabinet.proofs.power_on.Tie as tie
+use Rattle.power.specs.Power.{toldPower}
+use Rattle.power.proofs.power_on.Statement.{statement}
+use Rattle.power.proofs.power_on.Tie as tie
 
 pub power-on-spec : {M : Type 1} → statement M
 power-on-spec =

@@ -1,8 +1,8 @@
 use native.Mathlib.Omega.{arith}
 use mathlib.Core.Path.{refl, sym}
 use lib.Seq.{length-take-le, take-all}
-use Rattle.cabinet.proofs.filled.Statement.{statement}
-use Rattle.cabinet.proofs.filled.Tie as tie
+use Rattle.asking.proofs.filled.Statement.{statement}
+use Rattle.asking.proofs.filled.Tie as tie
 
 pub filled-spec : {M : Type 1} → statement M
 filled-spec =

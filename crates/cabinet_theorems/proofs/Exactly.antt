@@ -1,0 +1,194 @@
+-- 01's table of replies, row by row: each reply of a public run is given exactly when the table says. Assumes nothing.
+use Prim.Native.Nat.{ℕ, _-_, _≤_, _<_}
+use native.Mathlib.Omega.{arith}
+use mathlib.Core.Path.{_≡_, refl, sym, ap, subst, _∙_}
+use mathlib.Core.Bool.{Bool, true, false, true≢false}
+use mathlib.Core.List.{List, [], _∷_}
+use mathlib.Core.Logic.{_↔_}
+use mathlib.Core.Option.{none, some, Option·getD}
+use lib.ListN.{length, getD}
+use Rattle.session.specs.Session.{checkOf, faultNumber}
+use Rattle.session.specs.declared.Fault.{Fault}
+use Rattle.session.specs.declared.Fault.the-variants.{Length, Kind, Value, Time}
+use Rattle.session.specs.declared.Checked.the-variants.{Sound, Bad}
+use Rattle.session.proofs.Exactly.{Answered, exactly}
+use Rattle.machine.specs.declared.Machine.{Machine}
+use Rattle.machine.specs.Machine.{Ranges, rangesOf}
+use Rattle.machine.proofs.Ranges.{ranges-say, say-ranges}
+use Rattle.boundary.specs.declared.Stop.{Stop}
+use Rattle.boundary.specs.declared.Stop.the-variants.{Limit, Undefined, Full}
+use Rattle.boundary.specs.Boundary.{Lent, Terms, stopNumber}
+use Rattle.boundary.specs.Start.{startWorld, ranOf}
+use Rattle.laws.proofs.Known.{known}
+use Rattle.replies.specs.Replies.{Told, told, toldFault, toldCheck}
+use Rattle.replies.proofs.Known.{fault-known}
+use Rattle.cabinet.specs.Answers.{toldStop, End, endAt, endOf, answerAt, answerOf}
+use Rattle.cabinet.proofs.Ends.{Passed, refuses-1, refuses-2, refuses-3, session-decides, end-refused, end-ran, end-cases}
+use Rattle.cabinet_theorems.proofs.Stops.{Shows, shown-once, stop-shows}
+
+-- the number of a refusal by the session is 4 to 7, that of a stop is not 1 to 7
+fault-number : (f : Fault) → (4 ≤ faultNumber f) × (faultNumber f ≤ 7)
+fault-number (Length k) = (omega arith, omega arith)
+fault-number (Kind k) = (omega arith, omega arith)
+fault-number (Value k) = (omega arith, omega arith)
+fault-number (Time k) = (omega arith, omega arith)
+
+pub stop-number : {R : Type 0} (s : Stop) {j : ℕ} → stopNumber s ≡ j → 1 ≤ j → j ≤ 7 → R
+stop-number Limit e l h = absurd (let z : ⊥ = omega arith in z)
+stop-number Undefined e l h = absurd (let z : ⊥ = omega arith in z)
+stop-number Full e l h = absurd (let z : ⊥ = omega arith in z)
+
+-- the number of a told reply
+number : {t u : Told} → t ≡ u → t .number ≡ u .number
+number e = ap (λ (t : Told). t .number) e
+
+-- a stop is known by what it tells
+abbrev stopBack : Told → Stop
+stopBack t = getD (Limit ∷ Undefined ∷ Full ∷ []) (t .number - 7) Limit
+
+stop-known : (a b : Stop) → toldStop a ≡ toldStop b → a ≡ b
+stop-known = known toldStop stopBack back
+  where
+    back : (a : Stop) → stopBack (toldStop a) ≡ a
+    back Limit = refl
+    back Undefined = refl
+    back Full = refl
+
+-- the test of the ranges fails exactly where the machine is outside them
+outside : (m : Machine) → (rangesOf m ≡ false) ↔ (Ranges (m .chip .bus) → ⊥)
+outside m = ((λ f r. true≢false (sym (say-ranges (m .chip .bus) r) ∙ f)), by (rangesOf m) refl)
+  where
+    by : (b : Bool) → rangesOf m ≡ b → (Ranges (m .chip .bus) → ⊥) → rangesOf m ≡ false
+    by true e h = absurd (h (ranges-say (m .chip .bus) e))
+    by false e h = e
+
+module _ (asked : Terms) (m : Machine) (given : Lent) where
+  -- the reply of both runs is this one
+  abbrev Replies : Told → Type 0
+  Replies t = answerOf asked m given .reply ≡ t
+
+  abbrev Passes : Type 0
+  Passes = Passed asked m given
+
+  -- the reply of a refused run
+  refused-reply : {t : Told} → endOf asked m given ≡ endAt t (startWorld m given) → Replies t
+  refused-reply e = ap (λ (x : End). x .reply) e
+
+  -- 1: "the image is not 65,536 bytes"
+  pub reply-1 : Replies (told 1 none) ↔ (length (given .image) ≡ 65536 → ⊥)
+  reply-1 = (
+    (λ e.
+        end-cases asked m given (λ x. x .reply .number ≡ 1 → length (given .image) ≡ 65536 → ⊥)
+        (λ l d. l)
+        (λ l r d. omega arith)
+        (λ l r h d. omega arith)
+        (λ p f e d. let b = fault-number f in omega (arith, b .0))
+        (λ p s d. stop-number (ranOf asked m given .stop) d (omega arith) (omega arith))
+        (number e)),
+    (λ l. refused-reply (end-refused asked m given (refuses-1 asked m given l))),
+  )
+
+  -- 2: "the machine is outside its ranges"
+  pub reply-2 : Replies (told 2 none) ↔ ((length (given .image) ≡ 65536) × (Ranges (m .chip .bus) → ⊥))
+  reply-2 = (
+    (λ e.
+        end-cases asked m given (λ x. x .reply .number ≡ 2 → (length (given .image) ≡ 65536) × (Ranges (m .chip .bus) → ⊥))
+        (λ l d. absurd (let z : ⊥ = omega arith in z))
+        (λ l r d. (l, outside m .0 r))
+        (λ l r h d. absurd (let z : ⊥ = omega arith in z))
+        (λ p f e d. absurd (let b = fault-number f in let z : ⊥ = omega (arith, b .0) in z))
+        (λ p s d. stop-number (ranOf asked m given .stop) d (omega arith) (omega arith))
+        (number e)),
+    (λ h. refused-reply (end-refused asked m given (refuses-2 asked m given (h .0) (outside m .1 (h .1))))),
+  )
+
+  -- 3: "N is above 1,000,000,000"
+  pub reply-3 : Replies (told 3 none) ↔ ((length (given .image) ≡ 65536) × Ranges (m .chip .bus) × (1000000000 < asked .limit))
+  reply-3 = (
+    (λ e.
+        end-cases asked m given (λ x. x .reply .number ≡ 3 → (length (given .image) ≡ 65536) × Ranges (m .chip .bus) × (1000000000 < asked .limit))
+        (λ l d. absurd (let z : ⊥ = omega arith in z))
+        (λ l r d. absurd (let z : ⊥ = omega arith in z))
+        (λ l r h d. (l, ranges-say (m .chip .bus) r, h))
+        (λ p f e d. absurd (let b = fault-number f in let z : ⊥ = omega (arith, b .0) in z))
+        (λ p s d. stop-number (ranOf asked m given .stop) d (omega arith) (omega arith))
+        (number e)),
+    (λ h. refused-reply (end-refused asked m given (refuses-3 asked m given (h .0) (say-ranges (m .chip .bus) (h .1)) (h .2)))),
+  )
+
+  -- 4 to 7, after these: the session's check says so, and names the record
+  refused-by : (f : Fault) → Replies (toldFault f) ↔ (Passes × Answered (asked .session) (Bad f))
+  refused-by f =
+      let b = fault-number f in (
+        (λ e.
+            end-cases asked m given (λ x. x .reply ≡ toldFault f → Passes × Answered (asked .session) (Bad f))
+            (λ l d. absurd (let d = number d in let z : ⊥ = omega (arith, b .0) in z))
+            (λ l r d. absurd (let d = number d in let z : ⊥ = omega (arith, b .0) in z))
+            (λ l r h d. absurd (let d = number d in let z : ⊥ = omega (arith, b .0) in z))
+            (λ p g h d. (p, exactly (asked .session) (Bad f) .0 (h ∙ ap Bad (fault-known g f d))))
+            (λ p s d. stop-number (ranOf asked m given .stop) (number d) (let l = b .0 in omega arith) (b .1))
+            e),
+        (λ h.
+            let p = h .0 in
+            refused-reply
+            (end-refused asked m given
+            (session-decides asked m given (p .image-long) (say-ranges (m .chip .bus) (p .in-ranges)) (p .within)
+            ∙ ap toldCheck (exactly (asked .session) (Bad f) .1 (h .1))))),
+      )
+
+  -- 4: "a session record is cut short, or its length is wrong for its kind"
+  pub reply-4 : (k : ℕ) → Replies (told 4 (some k)) ↔ (Passes × Answered (asked .session) (Bad (Length k)))
+  reply-4 k = refused-by (Length k)
+
+  -- 5: "a record's kind is unknown"
+  pub reply-5 : (k : ℕ) → Replies (told 5 (some k)) ↔ (Passes × Answered (asked .session) (Bad (Kind k)))
+  reply-5 k = refused-by (Kind k)
+
+  -- 6: "a record's value is out of range"
+  pub reply-6 : (k : ℕ) → Replies (told 6 (some k)) ↔ (Passes × Answered (asked .session) (Bad (Value k)))
+  reply-6 k = refused-by (Value k)
+
+  -- 7: "a record's time is before the previous record's"
+  pub reply-7 : (k : ℕ) → Replies (told 7 (some k)) ↔ (Passes × Answered (asked .session) (Bad (Time k)))
+  reply-7 k = refused-by (Time k)
+
+  -- a run that is not refused
+  abbrev pub Admitted : Type 0
+  Admitted = Passes × (checkOf (asked .session) ≡ Sound)
+
+  pub admitted-end : Admitted → endOf asked m given ≡ (let e = ranOf asked m given in endAt (toldStop (e .stop)) (e .world))
+  admitted-end h =
+      let p = h .0 in
+      end-ran asked m given
+      (session-decides asked m given (p .image-long) (say-ranges (m .chip .bus) (p .in-ranges)) (p .within) ∙ ap toldCheck (h .1))
+      (ranOf asked m given) refl
+
+  stopped-by : (k : Stop) → Replies (toldStop k) ↔ (Admitted × Shows (asked .limit) k (answerOf asked m given))
+  stopped-by k =
+      let e = ranOf asked m given in
+      let shows = stop-shows asked (startWorld m given) in (
+        (λ d.
+            end-cases asked m given (λ x. x .reply ≡ toldStop k → Admitted × Shows (asked .limit) k (answerAt x))
+            (λ l d. stop-number k (sym (number d)) (omega arith) (omega arith))
+            (λ l r d. stop-number k (sym (number d)) (omega arith) (omega arith))
+            (λ l r h d. stop-number k (sym (number d)) (omega arith) (omega arith))
+            (λ p f e d. let b = fault-number f in stop-number k (sym (number d)) (let l = b .0 in omega arith) (b .1))
+            (λ p f d. ((p, f), subst (λ (s : Stop). Shows (asked .limit) s (answerAt (endAt (toldStop (e .stop)) (e .world)))) (stop-known (e .stop) k d) shows))
+            d),
+        (λ h.
+            let q = admitted-end (h .0) in
+            let s = subst (λ (x : End). Shows (asked .limit) k (answerAt x)) q (h .1) in
+            ap (λ (x : End). x .reply) q ∙ ap toldStop (shown-once (asked .limit) (e .stop) k (answerAt (endAt (toldStop (e .stop)) (e .world))) shows s)),
+      )
+
+  -- 0: "the cycle limit N is reached"
+  pub reply-0 : Replies (told 0 none) ↔ (Admitted × Shows (asked .limit) Limit (answerOf asked m given))
+  reply-0 = stopped-by Limit
+
+  -- 8: "the opcode to be executed is undefined"
+  pub reply-8 : Replies (told 8 none) ↔ (Admitted × Shows (asked .limit) Undefined (answerOf asked m given))
+  reply-8 = stopped-by Undefined
+
+  -- 9: "a byte is to be sent and the output has no room"
+  pub reply-9 : Replies (told 9 none) ↔ (Admitted × Shows (asked .limit) Full (answerOf asked m given))
+  reply-9 = stopped-by Full

@@ -1,0 +1,4 @@
+pub mod Stops
+pub mod Exactly
+pub mod Left
+pub mod Settled
