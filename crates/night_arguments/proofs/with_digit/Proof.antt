@@ -1,8 +1,8 @@
--- `arguments::with_digit` meets its contract: test by test. Assumes nothing.
-use Rattle.arguments.proofs.Laws.{below, above, too-large, one-more}
+-- `night_arguments::with_digit` meets its contract: test by test. Assumes nothing.
+use Rattle.night_arguments.proofs.Laws.{below, above, too-large, one-more}
 use borrow.Author.Needs.{needs}
-use Rattle.arguments.proofs.with_digit.Statement.{statement}
-use Rattle.arguments.proofs.with_digit.Tie as tie
+use Rattle.night_arguments.proofs.with_digit.Statement.{statement}
+use Rattle.night_arguments.proofs.with_digit.Tie as tie
 
 pub with-digit-spec : {M : Type 1} → statement M
 with-digit-spec =

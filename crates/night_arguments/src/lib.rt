@@ -1,10 +1,8 @@
 // What a program makes of its arguments: a number in decimal, and a name with an ending.
 ghost use mathlib.Core.Path.{_≡_};
-ghost use Prim.Native.Nat.{_+_, _≤_};
 ghost use lib.ListN.{length, take};
-ghost use lib.Seq.{sets};
 ghost use Rattle.io.specs.Counts.{Counts};
-ghost use Rattle.arguments.specs.Arguments.{toldNumber, withDigit, numberOf, joinedOf};
+ghost use Rattle.night_arguments.specs.Arguments.{toldNumber, withDigit, numberOf, joinedOf};
 
 // A number below 2^32, or that there is none.
 pub enum Number {
@@ -51,20 +49,6 @@ pub fn read_number(text: &[u8]) -> Number
     Number::Is(v)
 }
 
-// Bytes are stored from a place of the buffer on.
-fn copy(bytes: &[u8], from: usize, buffer: &mut [u8])
-    requires { ⌜ from + length (now bytes) ≤ length (now buffer) ⌝ }
-    ensures { λ _. ⌜ now (buffer .exit) ≡ sets (now (buffer .entry)) from (now (bytes .entry)) ⌝ }
-{
-    let mut i = 0;
-    let mut to = from;
-    while i < bytes.len() {
-        buffer[to] = bytes[i];
-        i = i + 1;
-        to = to + 1;
-    }
-}
-
 // A name and an ending are put at the buffer's front; the answer is how many bytes they are, 0 where the buffer is too short.
 pub fn joined(name: &[u8], ending: &[u8], buffer: &mut [u8]) -> usize
     ensures { λ r. ⌜ Counts r (now (buffer .exit)) ⌝ }
@@ -76,7 +60,7 @@ pub fn joined(name: &[u8], ending: &[u8], buffer: &mut [u8]) -> usize
     if buffer.len() - name.len() < ending.len() {
         return 0;
     }
-    copy(name, 0, buffer);
-    copy(ending, name.len(), buffer);
+    bytes::copy(name, buffer);
+    bytes::copy(ending, &mut buffer[name.len()..]);
     name.len() + ending.len()
 }

@@ -1,14 +1,14 @@
--- `arguments::read_number` meets its contract: each turn reads one digit more. Assumes nothing.
+-- `night_arguments::read_number` meets its contract: each turn reads one digit more. Assumes nothing.
 use Prim.Native.Nat.{ℕ, _+_, _-_, _≤_}
 use native.Mathlib.Omega.{arith}
 use mathlib.Core.Option.{Option, some}
 use mathlib.Core.Path.{_≡_, sym, ap, _∙_}
 use lib.ListN.{length, drop}
 use borrow.Author.Needs.{needs}
-use Rattle.arguments.specs.Arguments.{toldNumber, numberFrom, numberOf}
-use Rattle.arguments.proofs.Laws.{from-none, from-step, from-end, no-text, some-text}
-use Rattle.arguments.proofs.read_number.Statement.{statement}
-use Rattle.arguments.proofs.read_number.Tie as tie
+use Rattle.night_arguments.specs.Arguments.{toldNumber, numberFrom, numberOf}
+use Rattle.night_arguments.proofs.Laws.{from-none, from-step, from-end, no-text, some-text}
+use Rattle.night_arguments.proofs.read_number.Statement.{statement}
+use Rattle.night_arguments.proofs.read_number.Tie as tie
 
 abbrev Inv-loop : tie.InvT-loop
 Inv-loop text v₀ i₀ v i = (i ≤ length text) × (numberOf text ≡ numberFrom (some v) (drop i text))

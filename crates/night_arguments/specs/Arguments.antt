@@ -5,8 +5,8 @@ use mathlib.Core.List.{List, [], _∷_, _++_}
 use mathlib.Core.Option.{Option, none, some}
 use lib.Dec.{ltb}
 use lib.ListN.{length}
-use Rattle.arguments.specs.declared.Number.{Number}
-use Rattle.arguments.specs.declared.Number.the-variants.{Is, No}
+use Rattle.night_arguments.specs.declared.Number.{Number}
+use Rattle.night_arguments.specs.declared.Number.the-variants.{Is, No}
 
 abbrev pub toldNumber : Number → Option ℕ
 toldNumber (Is n) = some n

@@ -1,17 +1,16 @@
 -- The laws of a number in decimal, digit by digit, and of a name with its ending. Assumes nothing.
 use Prim.Native.Nat.{ℕ, _+_, _-_, _*_, _≤_, _<_}
-use native.Mathlib.Nat.{zero-add}
 use native.Mathlib.Numerals.{add-one}
 use native.Mathlib.Omega.{arith}
-use mathlib.Core.List.{List, [], _∷_, _++_}
+use mathlib.Core.List.{List, [], _∷_, _++_, append-assoc}
 use mathlib.Core.Option.{Option, none, some}
 use mathlib.Core.Path.{_≡_, refl, sym, ap, _∙_}
 use lib.ListN.{length, getD, take, drop, drop-of-length-le, length-append}
-use lib.Seq.{sets, drop-cons}
+use lib.Seq.{drop-cons, take-length, take-at, take-append-seam}
 use borrow.Author.Tests.{lt-ltb, le-ltb}
-use Rattle.boundary.proofs.Picks.{picks, passes}
-use Rattle.rest.proofs.Lists.{sets-append, take-sets}
-use Rattle.arguments.specs.Arguments.{withDigit, numberFrom, numberOf, joinedOf}
+use Rattle.laws.proofs.Conds.{picks, passes}
+use Rattle.io.specs.Counts.{Counts}
+use Rattle.night_arguments.specs.Arguments.{withDigit, numberFrom, numberOf, joinedOf}
 
 module _ (v d : ℕ) where
   pub below : d < 48 → none ≡ withDigit v d
@@ -56,17 +55,18 @@ module _ (name ending : List ℕ) where
   unfolding joinedOf
   no-room room h = sym (picks _ _ (lt-ltb _ _ h))
 
-  pub both-stand : (b : List ℕ) {b₁ b₂ : List ℕ} → length name + length ending ≤ length b → b₁ ≡ sets b 0 name → b₂ ≡ sets b₁ (length name) ending
-      → take (length name + length ending) b₂ ≡ joinedOf name ending (length b)
+  -- the name over a buffer's front, then the ending over what follows the name
+  pub both-stand : {b p : List ℕ} (u v rest : List ℕ) → b ≡ take (length name) name ++ u → p ≡ take (length ending) ending ++ v
+      → take (length name) b ++ (p ++ rest) ≡ (name ++ ending) ++ (v ++ rest)
+  both-stand u v rest e f =
+      rw (e, f, take-length name, take-length ending, take-append-seam name u, append-assoc ending v rest)
+      (sym (append-assoc name ending (v ++ rest)))
+
+  pub counted : {l : List ℕ} (room : ℕ) (rest : List ℕ) → length name + length ending ≤ room → l ≡ (name ++ ending) ++ rest
+      → Counts (length name + length ending) l × (take (length name + length ending) l ≡ joinedOf name ending room)
   unfolding joinedOf
-  both-stand b {b₁} {b₂} h f g =
-      let l = length-append name ending in
-      let z = zero-add (length name) in
-      let y = zero-add (length (name ++ ending)) in
-      ap (take (length name + length ending))
-      (g ∙ ap (λ (x : List ℕ). sets x (length name) ending) f
-      ∙ ap (λ (k : ℕ). sets (sets b 0 name) k ending) (sym z)
-      ∙ sets-append b 0 name ending)
-      ∙ ap (λ (k : ℕ). take k (sets b 0 (name ++ ending))) (sym l ∙ sym y)
-      ∙ take-sets b (name ++ ending) 0 (omega arith)
-      ∙ sym (passes _ _ (le-ltb _ _ h))
+  counted {l} room rest h e =
+      let n = length-append name ending in
+      let m = length-append (name ++ ending) rest in
+      let t : take (length name + length ending) l ≡ name ++ ending = ap (take (length name + length ending)) e ∙ take-at (name ++ ending) rest _ n in
+      ((rw e (omega arith), sym (ap length t ∙ n)), t ∙ sym (passes _ _ (le-ltb _ _ h)))
