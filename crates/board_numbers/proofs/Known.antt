@@ -1,7 +1,7 @@
 -- Two instructions with the same six numbers are one: nothing is lost where an instruction is told by numbers. Assumes nothing.
 use Prim.Native.Nat.{ℕ}
 use mathlib.Core.List.{List, [], _∷_, _++_}
-use mathlib.Core.Path.{_≡_, refl, sym, ap, _∙_}
+use mathlib.Core.Path.{_≡_, refl}
 use lib.ListN.{getD}
 use Rattle.opcodes.specs.declared.Accumulator.{Accumulator}
 use Rattle.opcodes.specs.declared.Accumulator.the-variants.{A, B}
@@ -14,15 +14,19 @@ use Rattle.opcodes.specs.declared.Wide.the-variants.{Subd, Addd, Cpx, Ldd, Lds,
 use Rattle.opcodes.specs.declared.WideStore.{WideStore as WideStoreOperation}
 use Rattle.opcodes.specs.declared.WideStore.the-variants.{Std, Sts, Stx}
 use Rattle.opcodes.specs.declared.Internal.{Internal as InternalOperation}
-use Rattle.opcodes.specs.declared.Internal.the-variants.{Nop, Lsrd, Asld, Tap, Tpa, Inx, Dex, Clv, Sev, Clc, Sec, Cli, Sei, Sba, Cba, Tab, Tba, Daa, Aba, Tsx, Ins, Des, Txs, Abx, Mul}
+use Rattle.opcodes.specs.declared.Internal.the-variants.{Nop, Lsrd, Asld, Tap, Tpa, Inx, Dex, Clv, Sev, Clc, Sec, Cli, Sei,
+    Sba, Cba, Tab, Tba, Daa, Aba, Tsx, Ins, Des, Txs, Abx, Mul}
 use Rattle.opcodes.specs.declared.Branch.{Branch as BranchTest}
 use Rattle.opcodes.specs.declared.Branch.the-variants.{Bra, Brn, Bhi, Bls, Bcc, Bcs, Bne, Beq, Bvc, Bvs, Bpl, Bmi, Bge, Blt, Bgt, Ble}
 use Rattle.opcodes.specs.declared.Operation.{Operation}
-use Rattle.opcodes.specs.declared.Operation.the-variants.{Internal, Dyadic, Monadic, Tst, Sta, Wide, WideStore, Psh, Pul, Pshx, Pulx, Branch, Jmp, Jsr, Bsr, Rts, Rti, Swi, Wai}
+use Rattle.opcodes.specs.declared.Operation.the-variants.{Internal, Dyadic, Monadic, Tst, Sta, Wide, WideStore, Psh, Pul, Pshx, Pulx,
+    Branch, Jmp, Jsr, Bsr, Rts, Rti, Swi, Wai}
 use Rattle.opcodes.specs.declared.Place.{Place}
 use Rattle.opcodes.specs.declared.Place.the-variants.{Inherent, AccumulatorA, AccumulatorB, ImmediateByte, ImmediateWord, Direct, Indexed, Extended, Relative}
 use Rattle.opcodes.specs.declared.Instruction.{Instruction}
-use Rattle.numbering.specs.Numbers.{accumulatorNumber, dyadicNumber, monadicNumber, wideNumber, wideStoreNumber, internalNumber, branchNumber, placeNumber, operationBytes, instructionBytes}
+use Rattle.laws.proofs.Known.{known}
+use Rattle.board_numbers.specs.Numbers.{accumulatorNumber, dyadicNumber, monadicNumber, wideNumber, wideStoreNumber, internalNumber,
+    branchNumber, placeNumber, operationBytes, instructionBytes}
 
 -- what a number stands for
 abbrev accumulatorBack : ℕ → Accumulator
@@ -42,7 +46,8 @@ wideStoreBack n = getD (Std ∷ Sts ∷ Stx ∷ []) n Std
 
 abbrev internalBack : ℕ → InternalOperation
 internalBack n =
-    getD (Nop ∷ Lsrd ∷ Asld ∷ Tap ∷ Tpa ∷ Inx ∷ Dex ∷ Clv ∷ Sev ∷ Clc ∷ Sec ∷ Cli ∷ Sei ∷ Sba ∷ Cba ∷ Tab ∷ Tba ∷ Daa ∷ Aba ∷ Tsx ∷ Ins ∷ Des ∷ Txs ∷ Abx ∷ Mul ∷ []) n Nop
+    getD (Nop ∷ Lsrd ∷ Asld ∷ Tap ∷ Tpa ∷ Inx ∷ Dex ∷ Clv ∷ Sev ∷ Clc ∷ Sec ∷ Cli ∷ Sei ∷ Sba
+    ∷ Cba ∷ Tab ∷ Tba ∷ Daa ∷ Aba ∷ Tsx ∷ Ins ∷ Des ∷ Txs ∷ Abx ∷ Mul ∷ []) n Nop
 
 abbrev branchBack : ℕ → BranchTest
 branchBack n = getD (Bra ∷ Brn ∷ Bhi ∷ Bls ∷ Bcc ∷ Bcs ∷ Bne ∷ Beq ∷ Bvc ∷ Bvs ∷ Bpl ∷ Bmi ∷ Bge ∷ Blt ∷ Bgt ∷ Ble ∷ []) n Bra
@@ -188,4 +193,4 @@ back i Wai = rw (place-back (i .place))
 
 pub instruction-known : (i j : Instruction) → instructionBytes i ≡ instructionBytes j → i ≡ j
 unfolding instructionBytes
-instruction-known i j e = sym (back i (i .operation)) ∙ ap instructionBack e ∙ back j (j .operation)
+instruction-known = known instructionBytes instructionBack (λ i. back i (i .operation))

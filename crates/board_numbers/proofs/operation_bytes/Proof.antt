@@ -1,7 +1,7 @@
--- `numbering::operation_bytes` meets its contract: each arm is its own case. Assumes nothing.
+-- `board_numbers::operation_bytes` meets its contract: each arm is its own case. Assumes nothing.
 use borrow.Author.Needs.{needs}
-use Rattle.numbering.proofs.operation_bytes.Statement.{statement}
-use Rattle.numbering.proofs.operation_bytes.Tie as tie
+use Rattle.board_numbers.proofs.operation_bytes.Statement.{statement}
+use Rattle.board_numbers.proofs.operation_bytes.Tie as tie
 
 pub operation-bytes-spec : {M : Type 1} → statement M
 operation-bytes-spec =

@@ -1,7 +1,7 @@
--- `numbering::internal_number` meets its contract: each arm is its own case. Assumes nothing.
+-- `board_numbers::internal_number` meets its contract: each arm is its own case. Assumes nothing.
 use borrow.Author.Needs.{needs}
-use Rattle.numbering.proofs.internal_number.Statement.{statement}
-use Rattle.numbering.proofs.internal_number.Tie as tie
+use Rattle.board_numbers.proofs.internal_number.Statement.{statement}
+use Rattle.board_numbers.proofs.internal_number.Tie as tie
 
 pub internal-number-spec : {M : Type 1} → statement M
 internal-number-spec =

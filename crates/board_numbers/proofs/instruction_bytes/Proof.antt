@@ -1,10 +1,10 @@
--- `numbering::instruction_bytes` meets its contract: three bytes of the operation, then the others. Assumes nothing.
+-- `board_numbers::instruction_bytes` meets its contract: three bytes of the operation, then the others. Assumes nothing.
 use mathlib.Core.Path.{_∙_}
 use borrow.Author.Needs.{needs}
-use Rattle.numbering.specs.Numbers.{instructionBytes}
-use Rattle.numbering.proofs.Laws.{three-then}
-use Rattle.numbering.proofs.instruction_bytes.Statement.{statement}
-use Rattle.numbering.proofs.instruction_bytes.Tie as tie
+use Rattle.board_numbers.specs.Numbers.{instructionBytes}
+use Rattle.board_numbers.proofs.Laws.{three-then}
+use Rattle.board_numbers.proofs.instruction_bytes.Statement.{statement}
+use Rattle.board_numbers.proofs.instruction_bytes.Tie as tie
 
 pub instruction-bytes-spec : {M : Type 1} → statement M
 unfolding instructionBytes

@@ -11,7 +11,8 @@ use opcodes::Place;
 use opcodes::Wide;
 use opcodes::WideStore;
 ghost use mathlib.Core.Path.{_≡_};
-ghost use Rattle.numbering.specs.Numbers.{accumulatorNumber, dyadicNumber, monadicNumber, wideNumber, wideStoreNumber, internalNumber, branchNumber, placeNumber, operationBytes, instructionBytes};
+ghost use Rattle.board_numbers.specs.Numbers.{accumulatorNumber, dyadicNumber, monadicNumber, wideNumber, wideStoreNumber};
+ghost use Rattle.board_numbers.specs.Numbers.{internalNumber, branchNumber, placeNumber, operationBytes, instructionBytes};
 
 fn accumulator_number(a: Accumulator) -> u8
     ensures { λ r. ⌜ r ≡ accumulatorNumber a ⌝ }
