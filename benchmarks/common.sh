@@ -2,13 +2,12 @@
 # Needs Debian's qemu-user (with plugins) and a C compiler; off x86-64 also gcc-x86-64-linux-gnu. `rt check bench` comes first.
 here=$(cd "$(dirname "$0")" && pwd)
 root=$(dirname "$here")
+. "$root/tools/launch.sh"
 work=${WORK:-$root/target/benchmarks}
-kit=${RATTLE_HOME:-$(dirname "$(dirname "$(readlink -f "$(command -v rt)")")")}
 qemu=$(command -v qemu-x86_64)
 compiler=cc
 [ "$(uname -m)" = x86_64 ] || compiler=x86_64-linux-gnu-gcc
-libraries=$kit/on/$(uname -m)/toolchain/lib
-ours="$libraries/ld-linux-x86-64.so.2 --library-path $libraries $root/target/bin/bench"
+ours="$loader --library-path $libraries $root/target/bin/bench"
 plain="$work/emulator"
 
 build() {

@@ -7,11 +7,8 @@
 bench, by the same call), every fiftieth also to bench itself. A difference is printed with both lines, and its input is kept in
 target/benchmarks/; the last line says how many were compared and how many differ.
 """
-import os
 import pathlib
-import platform
 import random
-import shutil
 import subprocess
 import sys
 
@@ -335,11 +332,8 @@ def made(r):
 
 
 def loader():
-    kit = pathlib.Path(os.environ.get("RATTLE_HOME") or pathlib.Path(shutil.which("rt")).resolve().parent.parent)
-    tools = kit / "on" / platform.machine() / "toolchain"
-    emulator = tools / "bin/qemu-x86_64"
-    start = [str(emulator)] if emulator.exists() else []
-    return start + [str(tools / "lib/ld-linux-x86-64.so.2"), "--library-path", str(tools / "lib")]
+    """What the bench program's file follows on a command line."""
+    return subprocess.run(["sh", str(ROOT / "tools/launch.sh"), "--words"], capture_output=True, text=True, check=True).stdout.splitlines()
 
 
 def lines(program, data):

@@ -11,7 +11,6 @@ import os
 import pathlib
 import platform
 import re
-import shutil
 import subprocess
 import sys
 
@@ -23,12 +22,10 @@ PREFIX = "" if platform.machine() == "x86_64" else "x86_64-linux-gnu-"
 
 def run(data):
     """Times each instruction run of the program was executed, by its address in the file and length; and the line's numbers."""
-    kit = pathlib.Path(os.environ.get("RATTLE_HOME") or pathlib.Path(shutil.which("rt")).resolve().parent.parent)
-    libraries = kit / "on" / platform.machine() / "toolchain/lib"
     rows = WORK / "rows"
-    command = ["qemu-x86_64", "-E", "LD_DEBUG=files", "-plugin", str(WORK / "libicount.so"), str(libraries / "ld-linux-x86-64.so.2"),
-               "--library-path", str(libraries), str(PROGRAM)]
-    done = subprocess.run(command, input=data, capture_output=True, env={**os.environ, "ICOUNT_OUT": str(rows)}, check=True)
+    own = {**os.environ, "ICOUNT_OUT": str(rows), "EMULATOR": f"qemu-x86_64 -E LD_DEBUG=files -plugin {WORK / 'libicount.so'}"}
+    words = subprocess.run(["sh", str(ROOT / "tools/launch.sh"), "--words"], capture_output=True, text=True, env=own, check=True).stdout
+    done = subprocess.run([*words.splitlines(), str(PROGRAM)], input=data, capture_output=True, env=own, check=True)
     link = re.search(r"file=\S*bin/bench \[0\];\s+generating link map.*?base: (\S+)", done.stderr.decode(), re.S)
     base = int(link.group(1), 16)
     counts = collections.Counter()

@@ -13,7 +13,7 @@ use Rattle.cabinet.specs.Replies.{Told, told, Given, gives, replies}
 use Rattle.cabinet.specs.Answers.{answerOf, leapsOf, powerAnswer, opcodeAnswer}
 use Rattle.saved.specs.Layout.{savedOf}
 use Rattle.saved.specs.Answers as load
-use Rattle.numbering.specs.Numbers.{instructionBytes}
+use Rattle.board_numbers.specs.Numbers.{instructionBytes}
 use Rattle.rest.specs.Answers as rest
 use Rattle.results.specs.Bytes.{littleEndian, over}
 use Rattle.results.specs.Results.{Counts, countsOf, noCounts, singleBytes, leapingBytes}

@@ -41,7 +41,7 @@ pub extern "C" fn pliruzza_ask(opcode: u8, answer: &mut [u8]) -> u32
     match decoded {
         Decoded::Undefined => 8,
         Decoded::Defined(i) => {
-            let bytes = numbering::instruction_bytes(i);
+            let bytes = board_numbers::instruction_bytes(i);
             results::lay(&bytes, answer);
             0
         }

@@ -1,6 +1,6 @@
 // The night program: IMAGE SESSION N R STATE OUTPUT. It runs a night on the files, prints a line for each slice and one for the
 // night, and puts the new files in the old ones' places only when all of them are written (docs/NIGHT.md).
-use arguments::Number;
+use night_arguments::Number;
 use machine::Machine;
 use machine::Power;
 use saved::Loaded;
@@ -63,7 +63,7 @@ fn read_file(name: &[u8], buffer: &mut [u8]) -> Held {
 // Whether a file of this name and ending is there, or cannot be told not to be.
 fn stands(name: &[u8], ending: &[u8]) -> bool {
     let mut path = io::buffer();
-    let n = arguments::joined(name, ending, &mut path);
+    let n = night_arguments::joined(name, ending, &mut path);
     let fd = os::open_read(&path[..n]);
     if fd < 0 {
         return os::errno() != libc::ENOENT;
@@ -83,7 +83,7 @@ fn write_whole(fd: i32, bytes: &[u8]) -> bool {
 // A new file of this name and ending holds the first `count` bytes.
 fn write_new(name: &[u8], ending: &[u8], bytes: &[u8], count: usize) -> bool {
     let mut path = io::buffer();
-    let n = arguments::joined(name, ending, &mut path);
+    let n = night_arguments::joined(name, ending, &mut path);
     let fd = os::create(&path[..n]);
     if fd < 0 {
         return false;
@@ -93,16 +93,16 @@ fn write_new(name: &[u8], ending: &[u8], bytes: &[u8], count: usize) -> bool {
 
 fn remove(name: &[u8], ending: &[u8]) {
     let mut path = io::buffer();
-    let n = arguments::joined(name, ending, &mut path);
+    let n = night_arguments::joined(name, ending, &mut path);
     os::unlink(&path[..n]);
 }
 
 // The file of this name and one ending takes this name and another.
 fn place(name: &[u8], from: &[u8], to: &[u8]) -> bool {
     let mut old = io::buffer();
-    let n = arguments::joined(name, from, &mut old);
+    let n = night_arguments::joined(name, from, &mut old);
     let mut new = io::buffer();
-    let m = arguments::joined(name, to, &mut new);
+    let m = night_arguments::joined(name, to, &mut new);
     os::rename(&old[..n], &new[..m]) == 0
 }
 
@@ -314,7 +314,7 @@ fn open(
 fn number_at(i: usize) -> Number {
     let mut text = [0u8; 16];
     let n = os::arg(i, &mut text);
-    arguments::read_number(&text[..n])
+    night_arguments::read_number(&text[..n])
 }
 
 fn main() {

@@ -1,10 +1,10 @@
 // Refusals and stops of a night, and the edges of reading numbers and joining names. docs/NIGHT.md has the numbers.
-use arguments::Number;
+use night_arguments::Number;
 use machine::Power;
 use printing::Line;
 
 fn show_number(text: &[u8]) {
-    let number = arguments::read_number(text);
+    let number = night_arguments::read_number(text);
     match number {
         Number::Is(n) => Line::empty()
             .text(b"number ")
@@ -17,7 +17,7 @@ fn show_number(text: &[u8]) {
 
 fn show_joined(name: &[u8], ending: &[u8]) {
     let mut buffer = [0u8; 8];
-    let n = arguments::joined(name, ending, &mut buffer);
+    let n = night_arguments::joined(name, ending, &mut buffer);
     Line::empty()
         .text(b"name ")
         .text(&buffer[..n])

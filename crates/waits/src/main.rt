@@ -1,36 +1,21 @@
-// Whole runs, single and leaping side by side, over waits that end in every way. docs/WAITS.md works the expected lines from 01.
-use boundary::Cycles;
-use boundary::Entries;
-use boundary::Instructions;
-use boundary::Leaps;
-use boundary::Records;
-use boundary::Sent;
-use boundary::State;
-use boundary::Stop;
-use machine::Machine;
+// Whole runs, single and leaping side by side, over waits that end in every way: docs/WAITS.md works the expected lines from 01.
+// With `s` or `l` and then 3, 6 or 9 on standard input, one wait that nothing ends instead, passed singly or by leaping for a
+// thousand, a million or a thousand million cycles: docs/PERFORMANCE.md measures it.
+use cabinet::Ran;
+use cabinet::Reply;
 use machine::Power;
-use run::Outcome;
-ghost use Prim.Native.Nat.{_≤_, _<_};
-ghost use Rattle.boundary.specs.Counts.{Fine};
+ghost use Prim.Native.Nat.{_≤_};
 
 // Where the code and the interrupts' handler go.
 const CODE: usize = 0x0100;
 
 const HANDLER: usize = 0x0200;
 
-fn put(image: &mut [u8], at: usize, v: u8) {
-    if at < image.len() {
-        image[at] = v;
-    }
-}
-
-fn install(image: &mut [u8], at: usize, code: &[u8])
-    requires { ⌜ at < 65536 ⌝ }
-{
-    let mut i = 0;
-    while i < code.len() {
-        put(image, at + i, code[i]);
-        i += 1;
+fn install(image: &mut [u8], at: usize, code: &[u8]) {
+    if at <= image.len() {
+        if code.len() <= image.len() - at {
+            bytes::copy(code, &mut image[at..]);
+        }
     }
 }
 
@@ -49,27 +34,18 @@ fn rom(code: &[u8], handler: &[u8]) -> [u8; 65536] {
     image
 }
 
-fn start(m: Machine) -> State
-    ensures { λ r. ⌜ Fine r ⌝ }
-{
-    State {
-        machine: m,
-        place: 0,
-        used: Records(0),
-        cycles: Cycles(0),
-        instructions: Instructions(0),
-        entries: Entries(0),
-        sent: Sent(0),
-        leaps: Leaps(0),
-        inside: false,
-    }
-}
-
-fn stop_number(s: Stop) -> u64 {
-    match s {
-        Stop::Limit => 0,
-        Stop::Undefined => 8,
-        Stop::Full => 9,
+fn reply_number(r: Reply) -> u64 {
+    match r {
+        Reply::Limit => 0,
+        Reply::WrongImage => 1,
+        Reply::WrongMachine => 2,
+        Reply::WrongLimit => 3,
+        Reply::Length(_) => 4,
+        Reply::Kind(_) => 5,
+        Reply::Value(_) => 6,
+        Reply::Time(_) => 7,
+        Reply::Undefined => 8,
+        Reply::Full => 9,
     }
 }
 
@@ -85,49 +61,55 @@ fn hexadecimal(name: &[u8], n: u64, digits: usize)
     io::print_hex(1, n, digits);
 }
 
-fn show(o: Outcome, leaping: bool, image: &[u8]) {
-    let stop = o.stop;
-    let s = o.state;
-    let c = s.machine.chip.cpu;
-    number(b" stop ", stop_number(stop));
-    number(b" cycles ", s.cycles.0 as u64);
-    number(b" instr ", s.instructions.0 as u64);
-    number(b" entries ", s.entries.0 as u64);
-    number(b" used ", s.used.0 as u64);
-    number(b" sent ", s.sent.0 as u64);
+fn show(r: Ran, first: u8, second: u8) {
+    let reply = r.reply;
+    let c = r.machine.chip.cpu;
+    number(b" stop ", reply_number(reply));
+    number(b" cycles ", r.cycles.0 as u64);
+    number(b" instr ", r.instructions.0 as u64);
+    number(b" entries ", r.entries.0 as u64);
+    number(b" used ", r.used.0 as u64);
+    number(b" sent ", r.sent.0 as u64);
     hexadecimal(b" pc ", c.pc as u64, 4);
     hexadecimal(b" a ", c.a as u64, 2);
     hexadecimal(b" b ", c.b as u64, 2);
     hexadecimal(b" sp ", c.sp as u64, 4);
     hexadecimal(b" cc ", c.codes.to_byte() as u64, 2);
-    hexadecimal(b" 80 ", bus::peek(image, 0x80) as u64, 2);
-    hexadecimal(b" 81 ", bus::peek(image, 0x81) as u64, 2);
-    if leaping {
-        number(b" leaps ", s.leaps.0 as u64);
-    }
+    hexadecimal(b" 80 ", first as u64, 2);
+    hexadecimal(b" 81 ", second as u64, 2);
 }
 
-fn go(leaping: bool, code: &[u8], handler: &[u8], session: &[u8], n: u32) -> bool
-    requires { ⌜ n ≤ 1000000000 ⌝ }
-{
+fn single(code: &[u8], handler: &[u8], session: &[u8], n: u32) {
     let mut image = rom(code, handler);
     let mut output = [0u8; 1];
-    let Power::On(m) = machine::power_on(&image, 65536) else {
-        return false;
+    let Power::On(m) = cabinet::power_on(&image, 65536) else {
+        return;
     };
-    let o = run::run(leaping, session, n, &mut image, &mut output, start(m));
-    show(o, leaping, &image);
-    io::write_all(1, b"\n")
+    let r = cabinet::run_single(&mut image, m, session, n, &mut output);
+    io::write_all(1, b"  single ");
+    show(r, image[0x80], image[0x81]);
+    io::write_all(1, b"\n");
 }
 
-fn both(title: &[u8], code: &[u8], handler: &[u8], session: &[u8], n: u32) -> bool
-    requires { ⌜ n ≤ 1000000000 ⌝ }
-{
-    io::write_all(1, title);
-    io::write_all(1, b"\n  single ");
-    go(false, code, handler, session, n);
+fn leaping(code: &[u8], handler: &[u8], session: &[u8], n: u32) {
+    let mut image = rom(code, handler);
+    let mut output = [0u8; 1];
+    let Power::On(m) = cabinet::power_on(&image, 65536) else {
+        return;
+    };
+    let l = cabinet::run_leaping(&mut image, m, session, n, &mut output);
     io::write_all(1, b"  leaping");
-    go(true, code, handler, session, n)
+    let r = l.ran;
+    show(r, image[0x80], image[0x81]);
+    number(b" leaps ", l.leaps.0 as u64);
+    io::write_all(1, b"\n");
+}
+
+fn both(title: &[u8], code: &[u8], handler: &[u8], session: &[u8], n: u32) {
+    io::write_all(1, title);
+    io::write_all(1, b"\n");
+    single(code, handler, session, n);
+    leaping(code, handler, session, n);
 }
 
 fn limits() {
@@ -227,9 +209,38 @@ fn serials() {
     );
 }
 
-fn main() {
+fn cases() {
     limits();
     timers();
     records();
     serials();
+}
+
+fn limit(digit: u8) -> u32 {
+    match digit {
+        b'3' => 1000,
+        b'6' => 1000000,
+        b'9' => 1000000000,
+        _ => 0,
+    }
+}
+
+// The first case, by one run alone and with another limit.
+fn measured(run: u8, digit: u8) {
+    let wait = b"\x8E\x00\xFF\x3E";
+    if run == b'l' {
+        leaping(wait, b"\x3B", b"", limit(digit));
+    } else {
+        single(wait, b"\x3B", b"", limit(digit));
+    }
+}
+
+fn main() {
+    let mut input = [0u8; 2];
+    let n = io::read_full(0, &mut input);
+    if n == 0 {
+        cases();
+    } else {
+        measured(input[0], input[1]);
+    }
 }
