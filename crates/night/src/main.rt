@@ -22,7 +22,7 @@ enum Begun {
 }
 
 fn refuse(number: u8) {
-    answering::refused(number).text(b"\n").print();
+    bench_answer::refused(number).text(b"\n").print();
 }
 
 // 1,048,576 zeros, for a session.

@@ -27,7 +27,7 @@ use Rattle.cabinet.proofs.Ends.{end-cases}
 use Rattle.cabinet.proofs.Stops.{Shows, stop-shows}
 use Rattle.rest.specs.Rest.{hasFewer, restOf}
 use Rattle.rest.specs.Answers.{firstOf, restRefusal, answerBy, restAnswer}
-use Rattle.answering.specs.Answering.{stops}
+use Rattle.bench_answer.specs.Answering.{stops}
 use Rattle.nights.specs.Slices.{Standing, sliceCycles, Keeping, keeping, onRest, keepingOf, sliceOf, goesOn, sliceTurn, slicesOf, startOf, nightOf}
 
 -- a refusal of a session has a number

@@ -21,7 +21,7 @@ use Rattle.rest.specs.declared.Rested.{Rested}
 use Rattle.rest.proofs.Lists.{take-sets}
 use Rattle.rest.proofs.Places.{place-sound}
 use Rattle.rest.proofs.Laws.{rest-length}
-use Rattle.answering.specs.Answering.{stops}
+use Rattle.bench_answer.specs.Answering.{stops}
 use Rattle.nights.specs.Slices.{Keeping, keeping, onRest, keepingOf}
 
 some-none : {R : Type 0} {t : Told} → some t ≡ none → R

@@ -33,7 +33,7 @@ use Rattle.rest.specs.Rest.{placeOf, restOf}
 use Rattle.rest.proofs.Exactly.{rest-written}
 use Rattle.rest.proofs.Raised.{raised}
 use Rattle.rest.proofs.Second.{pastOf, used-within, after-sound, after-short, runs-raise}
-use Rattle.answering.specs.Answering.{stops}
+use Rattle.bench_answer.specs.Answering.{stops}
 use Rattle.nights.specs.Slices.{sliceCycles, Standing, together, Keeping, keeping, onRest, keepingOf, afterOf, sliceOf, goesOn, slicesOf, startOf, nightOf}
 use Rattle.nights.proofs.Going.{slice-falls, slices-more, slices-done}
 

@@ -5,7 +5,7 @@ use mathlib.Core.List.{List, _++_}
 use Rattle.printing.specs.Printing.{ascii, decimalOf}
 use Rattle.registers.specs.declared.Cpu.{Cpu}
 use Rattle.cabinet.specs.Replies.{Told}
-use Rattle.answering.specs.Answering.{stops, registersText, refusedText}
+use Rattle.bench_answer.specs.Answering.{stops, registersText, refusedText}
 use Rattle.nights.specs.declared.Numbers.{Numbers}
 use Rattle.nights.specs.Slices.{Standing}
 

@@ -13,7 +13,7 @@ use Rattle.cabinet.specs.Answers.{Answer, answerOf, leapsOf}
 use Rattle.rest.specs.Rest.{restOf}
 use Rattle.rest.specs.Answers.{wrote, refuses, restAnswer}
 use Rattle.rest.specs.Answers as rest
-use Rattle.answering.specs.Answering.{stops}
+use Rattle.bench_answer.specs.Answering.{stops}
 use Rattle.nights.specs.declared.Ended.{Ended}
 use Rattle.nights.specs.declared.Ended.the-variants.{Ran, TooFew, NoRoom}
 use Rattle.nights.specs.declared.Kept.{Kept}

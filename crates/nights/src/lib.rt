@@ -1,6 +1,6 @@
 // A night: a long run of the leaping kind in slices, each with the rest of the session that the one before left.
-use answering::refused;
-use answering::refused_record;
+use bench_answer::refused;
+use bench_answer::refused_record;
 use cabinet::Leapt;
 use cabinet::Ran;
 use cabinet::Reply;
@@ -17,7 +17,7 @@ ghost use lib.ListN.{length, take};
 ghost use lib.Seq.{sets};
 ghost use Rattle.cabinet.specs.Replies.{told, toldReply};
 ghost use Rattle.printing.specs.Printing.{emptyLine, putsOf};
-ghost use Rattle.answering.specs.Answering.{stops};
+ghost use Rattle.bench_answer.specs.Answering.{stops};
 ghost use Rattle.nights.specs.Slices.{sliceCycles, together, keepingOf, kept, toldEnded, standing, beginning, nextOf, sliceOf, goesOn, nightOf};
 ghost use Rattle.nights.specs.Lines.{numbersText, sliceText, stoppedText, endText, nightText};
 
@@ -129,7 +129,7 @@ fn stopped(stop: u8, slices: u64, n: Numbers, c: Cpu) -> Line
         .decimal(stop as u64)
         .text(b" slices ")
         .decimal(slices);
-    answering::registers(put_numbers(line, n), c)
+    bench_answer::registers(put_numbers(line, n), c)
 }
 
 // What a night that ended with this reply tells.

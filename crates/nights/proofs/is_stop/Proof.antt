@@ -2,7 +2,7 @@
 use Prim.Native.Nat.{ℕ}
 use mathlib.Core.Path.{_≡_, refl, ap, _∙_}
 use lib.Dec.{eqb}
-use Rattle.answering.specs.Answering.{stops}
+use Rattle.bench_answer.specs.Answering.{stops}
 use mathlib.Core.Bool.{Bool, true, false, _||_}
 use borrow.Author.Needs.{needs}
 use Rattle.nights.proofs.is_stop.Statement.{statement}
