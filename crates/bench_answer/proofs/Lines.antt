@@ -16,7 +16,7 @@ use Rattle.machine.specs.declared.Machine.{Machine}
 use Rattle.machine.specs.declared.Power.{Power}
 use Rattle.machine.specs.declared.Power.the-variants as power
 use Rattle.machine.specs.Machine.{powerOnOf}
-use Rattle.boundary.specs.Boundary.{lent, terms}
+use Rattle.boundary.specs.World.{lent, terms}
 use Rattle.cabinet.specs.Answers.{Answer, answerOf}
 use Rattle.cabinet.proofs.Ends.{reply-most}
 use Rattle.bench_input.specs.declared.Loaded.{Loaded}

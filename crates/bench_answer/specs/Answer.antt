@@ -8,7 +8,7 @@ use Rattle.asking.specs.Asking.{Given, gives, replies}
 use Rattle.power.specs.Power.{powerAnswer}
 use Rattle.replies.specs.Replies.{stops}
 use Rattle.machine.specs.declared.Machine.{Machine}
-use Rattle.boundary.specs.Boundary.{Lent, lent, terms}
+use Rattle.boundary.specs.World.{Lent, lent, terms}
 use Rattle.cabinet.specs.Answers.{Answer, answerOf}
 use Rattle.printing.specs.Printing.{ascii}
 use Rattle.lines.specs.declared.Numbers.{Numbers}

@@ -22,7 +22,8 @@ use Rattle.machine.proofs.Ranges.{ranges-say}
 use Rattle.boundary.specs.declared.State.{State}
 use Rattle.boundary.specs.declared.Stop.{Stop}
 use Rattle.boundary.specs.declared.Stop.the-variants as stop
-use Rattle.boundary.specs.Boundary.{Lent, Terms, World, Ended, worldOf, endedOf, runOf, stopNumber}
+use Rattle.boundary.specs.World.{Lent, Terms, World, Ended, worldOf, endedOf, stopNumber}
+use Rattle.boundary.specs.Boundary.{runOf}
 use Rattle.boundary.specs.Counts.{Fine}
 use Rattle.boundary.specs.Start.{startOf, startWorld, ranOf}
 use Rattle.cabinet.specs.declared.Admission.{Admission}

@@ -1,7 +1,7 @@
 -- `powered` meets its contract: power-on's answer decides. Assumes nothing.
 use mathlib.Core.Path.{_≡_, refl, sym, ap, _∙_}
 use borrow.Author.Needs.{needs}
-use Rattle.boundary.specs.Boundary.{Lent, lent}
+use Rattle.boundary.specs.World.{Lent, lent}
 use Rattle.cabinet.specs.declared.Ran.{Ran}
 use Rattle.cabinet.specs.Answers.{answered}
 use Rattle.printing.specs.Printing.{emptyLine, putsOf}
