@@ -211,7 +211,7 @@ fn pass(
 ) {
     let mut spare = session_buffer();
     let mut output = io::large_buffer();
-    let night = nights::run_night(image, m, session, size, n, &mut output, &mut spare);
+    let night = night_slices::run_night(image, m, session, size, n, &mut output, &mut spare);
     let line = night.line();
     if !night.has_stopped() {
         line.print();
