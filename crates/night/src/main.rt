@@ -1,8 +1,8 @@
 // The night program: IMAGE SESSION N R STATE OUTPUT. It runs a night on the files, prints a line for each slice and one for the
 // night, and puts the new files in the old ones' places only when all of them are written (docs/NIGHT.md).
-use night_arguments::Number;
 use machine::Machine;
 use machine::Power;
+use night_arguments::Number;
 use saved::Loaded;
 ghost use mathlib.Core.Path.{_≡_};
 ghost use lib.ListN.{length};

@@ -1,6 +1,6 @@
 // Refusals and stops of a night, and the edges of reading numbers and joining names. docs/NIGHT.md has the numbers.
-use night_arguments::Number;
 use machine::Power;
+use night_arguments::Number;
 use printing::Line;
 
 fn show_number(text: &[u8]) {
