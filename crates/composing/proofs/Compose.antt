@@ -22,12 +22,12 @@ use Rattle.cabinet.specs.declared.Ran.{Ran}
 use Rattle.cabinet.specs.Answers.{End, endAt, endOf, Answer, answerAt, answered, answerOf, leapsOf}
 use Rattle.cabinet.proofs.Exactly.{Admitted, admitted-end, reply-0}
 use Rattle.cabinet.proofs.Settled.{Single}
 use Rattle.rest.specs.Rest.{restOf}
-use Rattle.rest.specs.Joined.{joined}
+use Rattle.composing.specs.Joined.{joined}
 use Rattle.rest.specs.Answers.{wrote, restAnswer, restBuffer}
 use Rattle.rest.proofs.Exactly.{rest-written}
-use Rattle.rest.proofs.Raised.{raised, apart-most}
-use Rattle.rest.proofs.Second.{pastOf, secondOf, restAfter, used-within, after-sound, after-short, runs-raise}
+use Rattle.composing.proofs.Raised.{raised, apart-most}
+use Rattle.composing.proofs.Second.{pastOf, secondOf, restAfter, used-within, after-sound, after-short, runs-raise}
 
 -- the stop that tells 0
 limit-told : (k : Stop) → toldStop k ≡ told 0 none → k ≡ Limit

@@ -25,8 +25,8 @@ use Rattle.boundary.specs.declared.State.{State}
 use Rattle.boundary.specs.Boundary.{World, Ended, worldOf, movedOf, takenOf, recordsOf, sendsOf, sentState, sentWorld, enteredWorld, waitedState, onPending, actOf, sendOf, boundaryOf, runOf}
 use Rattle.boundary.proofs.Feeding.{records-more, records-done, next-after}
 use Rattle.boundary.proofs.Runs.{Then, run-more, run-done, run-keeps}
-use Rattle.rest.proofs.Lists.{set-append-add}
+use Rattle.laws.proofs.Lists.{set-append-add}
 use Rattle.rest.proofs.Matched.{Alike, Matched, event-there, next-there, due-shifted, due-goes, leb-shifted}
 
 -- what a first run has done: where the first unused record stands, its counts, and the filled part of its output
 pub record Past : Type 0 where
