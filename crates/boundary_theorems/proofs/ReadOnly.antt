@@ -18,8 +18,9 @@ use Rattle.machine.specs.Events.{appliedOf}
 use Rattle.machine.specs.Steps.{Stepped, enteredOf, instructed, stepOf}
 use Rattle.machine.proofs.Reset.{reset-is}
 use Rattle.machine.proofs.Steps.{step-cases, step-untaken, entered-untaken}
-use Rattle.boundary.specs.Boundary.{World, takenOf, sentState, enteredWorld, waitedState, runOf}
+use Rattle.boundary.specs.World.{memoriesIn, Terms, World}
+use Rattle.boundary.specs.Boundary.{recordTaken, sentState, enteredWorld, waitedState, runOf}
 use Rattle.boundary.proofs.Keeps.{Keeps, run-holds}
 
 abbrev start : Machine → ℕ
 start m = m .chip .bus .r
@@ -47,21 +48,29 @@ step-r memory m =
 
 -- R is r, and the byte at a is v
 abbrev Same : ℕ → ℕ → ℕ → World → Type 0
-Same r a v w = (start (w .state .machine) ≡ r) × (getD (w .image) a 0 ≡ v)
+Same r a v w = (start (w .state .machine) ≡ r) × (getD (w .lent .image) a 0 ≡ v)
 
-same : (r a v : ℕ) → takes r a ≡ false → (session : List ℕ) (n : ℕ) → Keeps session n (Same r a v)
-unfolding takenOf sentState enteredWorld waitedState passed
-same r a v t session n =
+same : (r a v : ℕ) → takes r a ≡ false → (t : Terms) → Keeps t (Same r a v)
+unfolding recordTaken sentState enteredWorld waitedState passed
+same r a v taken t =
     record {
-      applied = λ w d h. (applied-r (eventAt session (w .state .place)) (w .image) (w .state .machine) ∙ h .0, h .1);
+      applied = λ w d h. (applied-r (eventAt (t .session) (w .state .place)) (memoriesIn (w .lent)) (w .state .machine) ∙ h .0, h .1);
       sent = λ w l h. h;
-      entered = λ w cause e l h. (entered-r cause (w .image) (w .state .machine) ∙ h .0, entered-untaken cause (w .image) (w .state .machine) a (rw (h .0) t) ∙ h .1);
+      entered = λ w cause e l h.
+          let m = w .state .machine in
+          let memory = memoriesIn (w .lent) in
+          (entered-r cause memory m ∙ h .0, entered-untaken cause memory m a (rw (h .0) taken) ∙ h .1);
       waited = λ w f l h. h;
-      stepped = λ w f l h. (step-r (w .image) (w .state .machine) ∙ h .0, step-untaken (w .image) (w .state .machine) a (rw (h .0) t) ∙ h .1);
+      stepped = λ w f l h.
+          let m = w .state .machine in
+          let memory = memoriesIn (w .lent) in
+          (step-r memory m ∙ h .0, step-untaken memory m a (rw (h .0) taken) ∙ h .1);
     }
 
-pub read-only-kept : (session : List ℕ) (n : ℕ) (w : World) (a : ℕ) → takes (w .state .machine .chip .bus .r) a ≡ false
-    → let v = runOf session n w .world in
-    (v .state .machine .chip .bus .r ≡ w .state .machine .chip .bus .r) × (getD (v .image) a 0 ≡ getD (w .image) a 0)
-read-only-kept session n w a t =
-    run-holds session n (Same (start (w .state .machine)) a (getD (w .image) a 0)) (same (start (w .state .machine)) a (getD (w .image) a 0) t session n) w (refl, refl)
+pub read-only-kept : (t : Terms) (w : World) (a : ℕ) → takes (w .state .machine .chip .bus .r) a ≡ false
+    → let v = runOf t w .world in
+    (v .state .machine .chip .bus .r ≡ w .state .machine .chip .bus .r) × (getD (v .lent .image) a 0 ≡ getD (w .lent .image) a 0)
+read-only-kept t w a taken =
+    let r = start (w .state .machine) in
+    let v = getD (w .lent .image) a 0 in
+    run-holds t (Same r a v) (same r a v taken t) w (refl, refl)
