@@ -83,8 +83,8 @@ table =
 
 pub worked : map found table ≡ map meant table
 unfolding turns loopOf decodeOf codesByte codesOf movedOf dyadicOf resetPorts ticks resetTimer trcsOf readSerial writeSerial idleLine wantsToSend
-unfolding sentOf ticksSerial resetSerial serialRequest readOf writeOf storeOf passed resetBus run read write _>>=_ read2 operand dyadic sta push push2
-unfolding stackAll vectored wai enter operate execute lengthAt kindAt timeAt payloadAt nextAt eventOf dueAt resetAct resetOf pendingOf appliedOf
-unfolding enteredOf instructed stepOf recordTaken recordTurn recordsOf sentState enteredWorld waitedState actOf sendOf boundaryOf runOf markOf visits
-unfolding pathOf rowsOf traceOf
+    sentOf ticksSerial resetSerial serialRequest readOf writeOf storeOf passed resetBus run read write _>>=_ read2 operand dyadic sta push push2
+    stackAll vectored wai enter operate execute lengthAt kindAt timeAt payloadAt nextAt eventOf dueAt resetAct resetOf pendingOf appliedOf
+    enteredOf instructed stepOf recordTaken recordTurn recordsOf sentState enteredWorld waitedState actOf sendOf boundaryOf runOf markOf visits
+    pathOf rowsOf traceOf
 worked = refl
