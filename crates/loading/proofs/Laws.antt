@@ -6,15 +6,17 @@ use native.Mathlib.Numerals.{add-one}
 use native.Mathlib.Omega.{arith}
 use mathlib.Core.List.{List, [], _∷_}
 use mathlib.Core.Path.{_≡_, refl, sym, ap, subst, _∙_}
-use mathlib.Core.Bool.{Bool, true, false, true≢false, cond, _&&_}
+use mathlib.Core.Bool.{Bool, true, false, cond, _&&_}
 use lib.ListN.{length, getD, set, take, drop, length-take, drop-of-length-le}
 use lib.Seq.{drop-cons}
 use lib.Dec.{eqb, leb}
 use borrow.Author.Tests.{leb-true, lt-leb, le-leb}
+use Rattle.laws.proofs.Bools.{both, and-false}
 use Rattle.turns.specs.Turn.{Turn, more, done}
 use Rattle.turns.proofs.Laws.{loop-more, loop-done}
 use Rattle.session.specs.Session.{lengthAt, kindAt, nextAt}
-use Rattle.loading.specs.Loading.{isWhole, addressAt, bytesAt, isLoad, isRun, afterLoads, storedAt, Loading, loadTurn, loadsOf, isGood, runAt, loadedOf, imageOf}
+use Rattle.loading.specs.Loading.{isWhole, addressAt, bytesAt, isLoad, isRun, afterLoads, storedAt}
+use Rattle.loading.specs.Loading.{Loading, loadTurn, loadsOf, isGood, runAt, loadedOf, imageOf}
 use Rattle.loading.specs.declared.Loaded.{Loaded}
 use Rattle.loading.specs.declared.Loaded.the-variants.{Bad, Run}
 
@@ -35,14 +37,6 @@ pub stored-all : (bytes memory : List ℕ) (at i : ℕ) → length bytes ≤ i �
 unfolding storedAt
 stored-all bytes memory at i h = ap (λ (l : List ℕ). storedAt memory at l) (drop-of-length-le bytes h)
 
-first : (a b : Bool) → (a && b) ≡ true → a ≡ true
-first true b e = refl
-first false b e = e
-
-second : (a b : Bool) → (a && b) ≡ true → b ≡ true
-second true b e = e
-second false b e = absurd (true≢false (sym e))
-
 -- the record at a place ends within the input, after its place
 abbrev Within : List ℕ → ℕ → Type 0
 Within s at = (at < length s) × (at + 2 ≤ nextAt s at) × (nextAt s at ≤ length s)
@@ -55,18 +49,19 @@ whole-within s at e =
 
 pub run-within : (s : List ℕ) (at : ℕ) → isRun s at ≡ true → Within s at
 unfolding isRun
-run-within s at e = whole-within s at (first _ _ (first _ _ e))
+run-within s at e = whole-within s at (both _ _ (both _ _ e .0) .0)
 
 pub load-within : (s : List ℕ) (at : ℕ) → isLoad s at ≡ true → Within s at
 unfolding isLoad
-load-within s at e = whole-within s at (first _ _ (first _ _ (first _ _ e)))
+load-within s at e = whole-within s at (both _ _ (both _ _ (both _ _ e .0) .0) .0)
 
 -- it has bytes to load, and not more than the address space
 pub load-bytes : (s : List ℕ) (at : ℕ) → isLoad s at ≡ true → (at + 6 ≤ nextAt s at) × (length (bytesAt s at) ≤ 65536)
 unfolding isLoad nextAt
 load-bytes s at e =
-    let h = leb-true 5 (lengthAt s at) (second (isWhole s at && eqb (kindAt s at) 9) (leb 5 (lengthAt s at)) (first _ _ e)) in
-    let l = leb-true (addressAt s at + lengthAt s at) 65540 (second (isWhole s at && eqb (kindAt s at) 9 && leb 5 (lengthAt s at)) (leb (addressAt s at + lengthAt s at) 65540) e) in
+    let f = both (isWhole s at && eqb (kindAt s at) 9 && leb 5 (lengthAt s at)) (leb (addressAt s at + lengthAt s at) 65540) e in
+    let h = leb-true 5 (lengthAt s at) (both (isWhole s at && eqb (kindAt s at) 9) (leb 5 (lengthAt s at)) (f .0) .1) in
+    let l = leb-true (addressAt s at + lengthAt s at) 65540 (f .1) in
     let t = length-take (at + 2 + lengthAt s at - (at + 6)) (drop (at + 6) s) in
     (omega arith, le-trans (subst (λ (k : ℕ). k ≤ at + 2 + lengthAt s at - (at + 6)) (sym t) (min-le-left _ _)) (omega arith))
 
@@ -115,11 +110,7 @@ module _ (s : List ℕ) where
   -- and where no run record follows the load records
   pub runless-bad : isRun s (afterLoads s 0) ≡ false → isGood s ≡ false
   unfolding isGood
-  runless-bad e = rw e (neither (leb (length s) 16384))
-    where
-      neither : (b : Bool) → (b && false) ≡ false
-      neither true = refl
-      neither false = refl
+  runless-bad e = rw e (and-false (leb (length s) 16384))
 
   pub run-good : length s ≤ 16384 → isRun s (afterLoads s 0) ≡ true → isGood s ≡ true
   unfolding isGood

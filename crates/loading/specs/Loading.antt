@@ -6,7 +6,8 @@ use mathlib.Core.Bool.{Bool, cond, _&&_}
 use lib.ListN.{length, set, take, drop}
 use lib.Dec.{eqb, leb}
 use Rattle.turns.specs.Turn.{Turn, more, done, loopOf}
-use Rattle.session.specs.Session.{two, four, lengthAt, kindAt, nextAt}
+use Rattle.numbers.specs.Numbers.{two, four}
+use Rattle.session.specs.Session.{lengthAt, kindAt, nextAt}
 use Rattle.loading.specs.declared.Loaded.{Loaded}
 use Rattle.loading.specs.declared.Loaded.the-variants.{Bad, Run}
 

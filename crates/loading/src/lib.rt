@@ -1,41 +1,15 @@
 // The bench program's input: load records, one run record, and the session after it.
+use numbers::four_at;
+use numbers::two_at;
 ghost use mathlib.Core.Path.{_≡_};
-ghost use Prim.Native.Nat.{_+_, _≤_};
+ghost use Prim.Native.Nat.{_≤_};
 ghost use lib.ListN.{length, set};
-ghost use Rattle.session.specs.Session.{byteAt, two, four};
 ghost use Rattle.loading.specs.Loading.{isLoad, isRun, afterLoads, storedAt, loadsOf, loadedOf, imageOf};
 
 // What an input holds: N, R and the place where its session begins; or it is bad.
 pub enum Loaded {
     Bad,
     Run { n: u32, r: u32, session: usize },
-}
-
-// Byte k of the record at a place, 0 past the end.
-fn byte_at(input: &[u8], at: usize, k: usize) -> u8
-    ensures { λ r. ⌜ r ≡ byteAt (now (input .entry)) at k ⌝ }
-{
-    if input.len() <= at {
-        return 0;
-    }
-    if input.len() - at <= k {
-        return 0;
-    }
-    input[at + k]
-}
-
-fn two_at(input: &[u8], at: usize, k: usize) -> u16
-    requires { ⌜ k ≤ 10 ⌝ }
-    ensures { λ r. ⌜ r ≡ two (now (input .entry)) at k ⌝ }
-{
-    (byte_at(input, at, k) as u16) + 256 * (byte_at(input, at, k + 1) as u16)
-}
-
-fn four_at(input: &[u8], at: usize, k: usize) -> u32
-    requires { ⌜ k ≤ 8 ⌝ }
-    ensures { λ r. ⌜ r ≡ four (now (input .entry)) at k ⌝ }
-{
-    (two_at(input, at, k) as u32) + 65536 * (two_at(input, at, k + 2) as u32)
 }
 
 // Whether a whole and right load record stands at a place.

@@ -1,12 +1,10 @@
--- Where the fields of a result record stand, and that a field's bytes tell its number. Assumes nothing.
-use Prim.Native.Nat.{ℕ, zero, suc, _+_, _*_, _/_, _%_, _^_, _<_}
-use native.Mathlib.Nat.{pow-suc}
-use native.Mathlib.Omega.{arith}
-use mathlib.Core.List.{List, [], _∷_}
-use mathlib.Core.Path.{_≡_, refl, ap, _∙_}
+-- Where the fields of a result record stand; that a field's bytes tell its number is `told-back` of numbers. Assumes nothing.
+use Prim.Native.Nat.{ℕ}
+use mathlib.Core.List.{List}
+use mathlib.Core.Path.{_≡_, refl}
 use lib.ListN.{take, drop}
 use Rattle.cabinet.specs.Replies.{Told}
-use Rattle.results.specs.Bytes.{littleEndian}
+use Rattle.numbers.specs.Numbers.{littleEndian}
 use Rattle.results.specs.Results.{Counts, resultBytes, singleBytes, leapingBytes}
 
 -- so many bytes of a record from a place on
@@ -29,16 +27,3 @@ fields reply named c = (refl, refl, refl, refl, refl, refl, refl)
 pub leaps-field : (t : Told) (c : Counts) (leaps : ℕ) → field (leapingBytes t c leaps) 40 4 ≡ littleEndian 4 leaps
 unfolding field resultBytes littleEndian
 leaps-field t c leaps = refl
-
--- the number that bytes tell, the lowest first
-pub numberIn : List ℕ → ℕ
-numberIn [] = 0
-numberIn (b ∷ bytes) = b + 256 * numberIn bytes
-
--- a number below the width's reach is told back
-pub told-back : (width n : ℕ) → n < 256 ^ width → numberIn (littleEndian width n) ≡ n
-unfolding littleEndian numberIn
-told-back zero n h = omega arith
-told-back (suc width) n h =
-    let e = pow-suc 256 width in
-    ap (λ (k : ℕ). n % 256 + 256 * k) (told-back width (n / 256) (omega arith)) ∙ omega arith

@@ -4,7 +4,7 @@ use mathlib.Core.List.{List, _++_}
 use mathlib.Core.Option.{none, Option·getD}
 use Rattle.cabinet.specs.Replies.{Told, told}
 use Rattle.cabinet.specs.Answers.{Answer}
-use Rattle.results.specs.Bytes.{littleEndian}
+use Rattle.numbers.specs.Numbers.{littleEndian}
 
 -- the counts that both runs report
 pub record Counts : Type 0 where

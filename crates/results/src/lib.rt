@@ -14,21 +14,8 @@ ghost use Prim.Native.Nat.{_≤_};
 ghost use lib.ListN.{length};
 ghost use Rattle.cabinet.specs.Replies.{told, toldReply};
 ghost use Rattle.cabinet.specs.Answers.{answered};
-ghost use Rattle.results.specs.Bytes.{littleEndian, over};
+ghost use Rattle.numbers.specs.Numbers.{over};
 ghost use Rattle.results.specs.Results.{counts, countsOf, noCounts, resultBytes, singleBytes, leapingBytes};
-
-// A number over all of a lent part, the lowest byte first.
-pub fn put(part: &mut [u8], number: u64)
-    ensures { λ _. ⌜ now (part .exit) ≡ littleEndian (length (now (part .entry))) number ⌝ }
-{
-    let mut rest = number;
-    let mut i = 0;
-    while i < part.len() {
-        part[i] = (rest % 256) as u8;
-        rest = rest / 256;
-        i = i + 1;
-    }
-}
 
 // Bytes over the first ones of a lent buffer.
 pub fn lay(bytes: &[u8], buffer: &mut [u8])
@@ -92,13 +79,13 @@ fn write(
     requires { ⌜ 40 ≤ length (now result) ⌝ }
     ensures { λ _. ⌜ now (result .exit) ≡ over (resultBytes reply named (counts (cycles .0) (instructions .0) (entries .0) (used .0) (sent .0))) (now (result .entry)) ⌝ }
 {
-    put(&mut result[0..4], reply as u64);
-    put(&mut result[4..8], cycles.0 as u64);
-    put(&mut result[8..12], instructions.0 as u64);
-    put(&mut result[12..16], entries.0 as u64);
-    put(&mut result[16..24], used.0 as u64);
-    put(&mut result[24..32], sent.0 as u64);
-    put(&mut result[32..40], named as u64);
+    numbers::put(&mut result[0..4], reply as u64);
+    numbers::put(&mut result[4..8], cycles.0 as u64);
+    numbers::put(&mut result[8..12], instructions.0 as u64);
+    numbers::put(&mut result[12..16], entries.0 as u64);
+    numbers::put(&mut result[16..24], used.0 as u64);
+    numbers::put(&mut result[24..32], sent.0 as u64);
+    numbers::put(&mut result[32..40], named as u64);
 }
 
 // The single run's record; returns the reply's number.
@@ -129,7 +116,7 @@ pub fn report_leaping(leapt: Leapt, result: &mut [u8]) -> u32
 {
     let ran = leapt.ran;
     let number = report_single(ran, result);
-    put(&mut result[40..44], leapt.leaps.0 as u64);
+    numbers::put(&mut result[40..44], leapt.leaps.0 as u64);
     number
 }
 
@@ -156,5 +143,5 @@ pub fn refuse_leaping(reply: u32, result: &mut [u8])
     ensures { λ _. ⌜ now (result .exit) ≡ over (leapingBytes (told reply none) noCounts 0) (now (result .entry)) ⌝ }
 {
     refuse_single(reply, result);
-    put(&mut result[40..44], 0);
+    numbers::put(&mut result[40..44], 0);
 }

@@ -25,5 +25,11 @@ after-loads-spec =
     (λ c κs. c .loop .inv .0)  -- is-load-requires
     (λ c κs. load-within _ _ (sym (c .before .is-load .ensures) ∙ c .if1 .taken) .0)  -- next-at-requires
     (λ c. let w = load-within _ _ (sym (c .before .before .is-load .ensures) ∙ c .before .if1 .taken) in omega (arith, w, c .next-at .ensures))  -- loop-less
-    (λ c. let e = sym (c .before .before .is-load .ensures) ∙ c .before .if1 .taken in let w = load-within _ _ e in (omega (arith, w, c .next-at .ensures), c .before .before .before .loop .inv .1 ∙ place-more _ _ e ∙ ap (λ k. afterLoads (c .before .before .before .before .before .args .input .now) k) (sym (c .next-at .ensures))))  -- loop-again
+    (λ c.
+    let e = sym (c .before .before .is-load .ensures) ∙ c .before .if1 .taken in
+    let n = c .next-at .ensures in
+    let w = load-within _ _ e in (
+      omega (arith, w, n),
+      c .before .before .before .loop .inv .1 ∙ place-more _ _ e ∙ ap (afterLoads (c .before .before .before .before .before .args .input .now)) (sym n),
+    ))  -- loop-again
     (λ c. (sym (c .before .before .loop .inv .1 ∙ place-done _ _ (sym (c .before .is-load .ensures) ∙ c .if1 .left)), c .before .before .loop .inv .0)))  -- returns

@@ -10,7 +10,8 @@ use Rattle.loading.proofs.load.Statement.{statement}
 use Rattle.loading.proofs.load.Tie as tie
 
 -- a run record stands after the loads
-runs : (c : tie.After-four-at2) → isRun (c .before .before .before .before .before .before .before .before .before .before .before .before .args .input .now) (c .before .before .before .before .before .before .before .before .after-loads .result) ≡ true
+runs : (c : tie.After-four-at2)
+    → isRun (c .before .before .before .before .before .before .before .before .before .before .before .before .args .input .now) (c .before .before .before .before .before .before .before .before .after-loads .result) ≡ true
 runs c = sym (c .before .before .before .before .before .before .before .is-run .ensures) ∙ not-false _ (c .before .before .before .before .before .before .if2 .left)
 
 pub load-spec : {M : Type 1} → statement M
@@ -26,4 +27,10 @@ load-spec =
     (λ c κs. search needs)  -- four-at-requires-2
     (λ c κs. run-within _ _ (runs c) .0)  -- next-at-requires
     (λ c. search needs)  -- same-length
-    (λ c. let g = loaded-run (c .before .before .before .before .before .before .before .before .before .before .before .before .before .args .input .now) (c .before .before .before .before .before .before .before .before .before .before .before .before .before .args .image .now) (run-good _ (c .before .before .before .before .before .before .before .before .before .before .if1 .left) (rw (← c .before .before .before .before .before .before .before .before .before .after-loads .ensures .0) (runs (c .before)))) in (rw (g .0, ← c .before .before .before .before .before .before .before .before .before .after-loads .ensures .0, c .before .before .four-at .ensures, c .before .four-at2 .ensures, c .next-at .ensures), c .before .before .before .before .before .store-loads .ensures ∙ sym (g .1))))  -- returns-3
+    (λ c.
+    let a = c .before .before .before .before .before .before .before .before .before .before .before .before .before .args in
+    let e = c .before .before .before .before .before .before .before .before .before .after-loads .ensures .0 in
+    let g = loaded-run (a .input .now) (a .image .now) (run-good _ (c .before .before .before .before .before .before .before .before .before .before .if1 .left) (rw (← e) (runs (c .before)))) in (
+      rw (g .0, ← e, c .before .before .four-at .ensures, c .before .four-at2 .ensures, c .next-at .ensures),
+      c .before .before .before .before .before .store-loads .ensures ∙ sym (g .1),
+    )))  -- returns-3

@@ -26,8 +26,23 @@ store-spec =
     (λ c. c .before .loop-test .taken)  -- shared-slice-read-store-byte
     (λ c κs. tt)  -- store-byte-requires
     (λ c. omega (arith, c .before .before .before .before .before .loop-test .taken))  -- add-i
-    (λ c. let e = c .before .before .before .before .before .before .loop .inv .1 in omega (arith, e, c .before .before .before .before .before .loop-test .taken, c .before .before .before .before .before .before .before .before .before .pre))  -- add-to
+    (λ c.
+    let e = c .before .before .before .before .before .before .loop .inv .1 in
+    omega (arith, e, c .before .before .before .before .before .loop-test .taken, c .before .before .before .before .before .before .before .before .before .pre))  -- add-to
     (λ c. omega (arith, c .before .before .before .before .before .loop-test .taken))  -- loop-less
-    (λ c. let e = c .before .before .before .before .before .before .loop .inv .1 in (omega (arith, c .before .before .before .before .before .loop-test .taken), omega (arith, e), c .before .before .store-byte .kept .1 .1 .0 ∙ c .before .before .before .before .before .before .loop .inv .2, c .before .before .before .before .before .before .loop .inv .3 ∙ stored-more (c .before .before .before .before .before .before .before .before .before .args .bytes .now) (c .before .before .before .before .before .before .loop .image) (c .before .before .before .before .before .before .loop .to) (c .before .before .before .before .before .before .loop .i) (c .before .before .before .before .before .loop-test .taken) ∙ ap (λ l. storedAt l (c .before .before .before .before .before .before .loop .to + 1) (drop (c .before .before .before .before .before .before .loop .i + 1) (c .before .before .before .before .before .before .before .before .before .args .bytes .now))) (sym (c .before .before .store-byte .ensures))))  -- loop-again
+    (λ c.
+    let l = c .before .before .before .before .before .before .loop in
+    let t = c .before .before .before .before .before .loop-test .taken in
+    let b = c .before .before .before .before .before .before .before .before .before .args .bytes .now in
+    let e = l .inv .1 in (
+      omega (arith, t),
+      omega (arith, e),
+      c .before .before .store-byte .kept .1 .1 .0 ∙ l .inv .2,
+      l .inv .3
+          ∙ stored-more b (l .image) (l .to) (l .i) t
+          ∙ ap (λ x. storedAt x (l .to + 1) (drop (l .i + 1) b)) (sym (c .before .before .store-byte .ensures)),
+    ))  -- loop-again
     (λ c. c .before .loop .inv .2)  -- same-length
-    (λ c. sym (c .before .loop .inv .3 ∙ stored-all (c .before .before .before .before .args .bytes .now) (c .before .loop .image) (c .before .loop .to) (c .before .loop .i) (c .loop-test .left))))  -- returns
+    (λ c.
+    let l = c .before .loop in
+    sym (l .inv .3 ∙ stored-all (c .before .before .before .before .args .bytes .now) (l .image) (l .to) (l .i) (c .loop-test .left))))  -- returns

@@ -37,6 +37,14 @@ store-loads-spec =
     (λ c κs. omega arith)  -- two-at-requires
     (λ c κs. rw (c .before .before .before .next-at .ensures) (load-bytes _ _ (loads (c .before .before .before)) .1))  -- store-requires
     (λ c. let w = load-within _ _ (loads (c .before .before .before .before .before .before)) in omega (arith, w, c .before .before .before .before .before .before .next-at .ensures))  -- loop-less
-    (λ c. let w = load-within _ _ (loads (c .before .before .before .before .before .before)) in (omega (arith, w, c .before .before .before .before .before .before .next-at .ensures), c .before .before .store .kept .1 .1 .0 ∙ c .before .before .before .before .before .before .before .before .before .loop .inv .1, c .before .before .before .before .before .before .before .before .before .loop .inv .2 ∙ loads-more _ _ _ (loads (c .before .before .before .before .before .before)) ∙ rw (c .before .before .store .ensures, c .before .before .before .before .two-at .ensures, c .before .before .before .before .before .before .next-at .ensures)))  -- loop-again
+    (λ c.
+    let l = c .before .before .before .before .before .before .before .before .before .loop in
+    let n = c .before .before .before .before .before .before .next-at .ensures in
+    let e = loads (c .before .before .before .before .before .before) in
+    let w = load-within _ _ e in (
+      omega (arith, w, n),
+      c .before .before .store .kept .1 .1 .0 ∙ l .inv .1,
+      l .inv .2 ∙ loads-more _ _ _ e ∙ rw (c .before .before .store .ensures, c .before .before .before .before .two-at .ensures, n),
+    ))  -- loop-again
     (λ c. c .before .before .loop .inv .1)  -- same-length
     (λ c. sym (c .before .before .loop .inv .2 ∙ loads-done _ _ _ (sym (c .before .is-load .ensures) ∙ c .if1 .left))))  -- returns

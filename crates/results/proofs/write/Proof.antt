@@ -3,7 +3,7 @@ use native.Mathlib.Omega.{arith}
 use mathlib.Core.Path.{_≡_}
 use borrow.Author.Needs.{needs}
 use Rattle.results.specs.Results.{resultBytes}
-use Rattle.results.proofs.Laws.{Laid, laid-none, laid-more}
+use Rattle.numbers.proofs.Laws.{Laid, laid-none, laid-more}
 use Rattle.results.proofs.write.Statement.{statement}
 use Rattle.results.proofs.write.Tie as tie
 

@@ -1,13 +1,14 @@
+-- `numbers::put` meets its contract: each turn puts one byte more. Assumes nothing.
 use Prim.Native.Nat.{_≤_, _-_, _%_}
 use native.Mathlib.Omega.{arith}
 use mathlib.Core.Path.{_≡_, refl, sym, ap, _∙_}
 use mathlib.Core.List.{_++_}
 use lib.ListN.{length, take, length-set}
 use borrow.Author.Needs.{needs}
-use Rattle.results.specs.Bytes.{littleEndian}
-use Rattle.results.proofs.Laws.{bytes-none, bytes-more, bytes-all}
-use Rattle.results.proofs.put.Statement.{statement}
-use Rattle.results.proofs.put.Tie as tie
+use Rattle.numbers.specs.Numbers.{littleEndian}
+use Rattle.numbers.proofs.Laws.{bytes-none, bytes-more, bytes-all}
+use Rattle.numbers.proofs.put.Statement.{statement}
+use Rattle.numbers.proofs.put.Tie as tie
 
 abbrev Inv-loop : tie.InvT-loop
 Inv-loop part₀ number rest₀ i₀ part rest i =

@@ -1,0 +1,6 @@
+pub mod Bools
+pub mod Conds
+pub mod Known
+pub mod Lists
+pub mod Options
+pub mod Orders
