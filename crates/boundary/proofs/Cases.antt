@@ -5,67 +5,53 @@ use mathlib.Core.List.{List}
 use mathlib.Core.Path.{_≡_, refl, sym, ap, subst, _∙_}
 use mathlib.Core.Bool.{Bool, true, false, cond}
 use lib.ListN.{length}
-use borrow.Author.Tests.{eq-eqb, ne-eqb, le-leb, lt-leb}
+use borrow.Author.Tests.{le-leb, lt-leb}
 use Rattle.turns.specs.Turn.{Turn, more, done}
-use Rattle.opcodes.specs.declared.Decoded.{Decoded}
-use Rattle.opcodes.specs.declared.Decoded.the-variants.{Undefined, Defined}
-use Rattle.opcodes.specs.Opcodes.{decodeOf}
-use Rattle.opcodes.proofs.Bounds.{bounds}
-use Rattle.bus.specs.Access.{readOf}
+use Rattle.opcodes.specs.declared.Instruction.{Instruction}
+use Rattle.registers.specs.Cpu.{idles}
+use Rattle.bus.specs.Access.{Memories}
+use Rattle.session.proofs.Laws.{next-after}
 use Rattle.machine.specs.declared.Machine.{Machine}
 use Rattle.machine.specs.declared.Moved.{Moved}
 use Rattle.machine.specs.declared.Cause.{Cause}
+use Rattle.machine.specs.declared.Look.{Look}
+use Rattle.machine.specs.declared.Look.the-variants as looks
 use Rattle.machine.specs.declared.Pending.{Pending}
 use Rattle.machine.specs.declared.Pending.the-variants.{Nothing, Due}
 use Rattle.machine.specs.Machine.{passedOf}
 use Rattle.machine.specs.Interrupts.{pendingOf}
-use Rattle.machine.specs.Steps.{Stepped, moved, enteredOf, instructed, executed, stepOf}
+use Rattle.machine.specs.Steps.{Stepped, moved, enteredOf, lookOf, stepOf}
 use Rattle.boundary.specs.World.{Lent, memoriesIn, withMemories, Terms, World, worldOf, endedOf, grown, grownTo}
 use Rattle.boundary.specs.Boundary.{recordTaken, recordsOf, fedWorld, sendsOf, sentState, sentWorld, enteredWorld, waitedState, waitedWorld}
 use Rattle.boundary.specs.Boundary.{steppedWorld, executedOf, onPending, actOf, sendOf, boundaryOf}
 use Rattle.boundary.specs.Counts.{Fine, Ready}
 use Rattle.boundary.specs.declared.State.{State}
 use Rattle.boundary.specs.declared.Stop.the-variants as stops
-use Rattle.boundary.proofs.Picks.{picks, passes}
-use Rattle.boundary.proofs.Feeding.{records-keep, next-after}
-
--- a step of no cycles leaves the image as it was
-pub undefined-kept : (i : List ℕ) (m : Machine) → stepOf i m .cycles ≡ 0 → stepOf i m .memory ≡ i
-unfolding stepOf instructed
-undefined-kept i m = by (decodeOf (readOf i (m .chip .cpu .pc) (m .chip .bus) .value)) refl
-  where
-    by : (d : Decoded) → decodeOf (readOf i (m .chip .cpu .pc) (m .chip .bus) .value) ≡ d
-        → executed d (readOf i (m .chip .cpu .pc) (m .chip .bus)) i m .cycles ≡ 0
-        → executed d (readOf i (m .chip .cpu .pc) (m .chip .bus)) i m .memory ≡ i
-    by Undefined e z = refl
-    by (Defined k) e z = let b = bounds _ k e .1 .0 in absurd (let w : ⊥ = omega (arith, b, z) in w)
+use Rattle.laws.proofs.Conds.{picks, passes}
+use Rattle.boundary.proofs.Feeding.{records-keep}
 
 module _ (s : State) (l : Lent) where
   -- step 4, by what the machine's entry gives
-  pub entry-law : (cause : Cause) {r : State} {e : Moved} {j : List ℕ}
-      → r ≡ grownTo s (e .machine) (grown (e .cycles) 0 1 0) false → moved e j ≡ enteredOf cause (memoriesIn l) (s .machine)
+  pub entry-law : (cause : Cause) {r : State} {e : Moved} {j : Memories}
+      → r ≡ grownTo s (e .machine) (grown (e .cycles .0) 0 1 0) false → moved e j ≡ enteredOf cause (memoriesIn l) (s .machine)
       → worldOf r (withMemories l j) ≡ enteredWorld cause (worldOf s l)
   unfolding enteredWorld
   entry-law cause {j} p q =
       ap (λ (x : State). worldOf x (withMemories l j)) p
       ∙ ap (λ (z : Stepped). worldOf (grownTo s (z .machine) (grown (z .cycles) 0 1 0) false) (withMemories l (z .memory))) q
 
-  -- step 6
-  pub step-stops : {e : Moved} {j : List ℕ} → e .cycles ≡ 0 → moved e j ≡ stepOf (memoriesIn l) (s .machine)
-      → done (endedOf stops.Undefined (worldOf s (withMemories l j))) ≡ executedOf (stepOf (memoriesIn l) (s .machine)) (worldOf s l)
-  step-stops {j} z q =
-      let y : stepOf (memoriesIn l) (s .machine) .cycles ≡ 0 = sym (ap (λ (x : Stepped). x .cycles) q) ∙ z in
-      ap (λ m. done (endedOf stops.Undefined (worldOf s (withMemories l m))))
-      (ap (λ (x : Stepped). x .memory) q ∙ undefined-kept (memoriesIn l) (s .machine) y)
-      ∙ sym (picks _ _ (eq-eqb _ _ y))
+  -- step 6, by what the machine's look and step give
+  pub step-stops : lookOf (memoriesIn l) (s .machine) ≡ looks.Undefined
+      → done (endedOf stops.Undefined (worldOf s l)) ≡ executedOf (lookOf (memoriesIn l) (s .machine)) (worldOf s l)
+  step-stops e = ap (λ (k : Look). executedOf k (worldOf s l)) (sym e)
 
-  pub step-goes : {r : State} {e : Moved} {j : List ℕ} → (e .cycles ≡ 0 → ⊥) → moved e j ≡ stepOf (memoriesIn l) (s .machine)
-      → r ≡ grownTo s (e .machine) (grown (e .cycles) 1 0 0) false
-      → more (worldOf r (withMemories l j)) ≡ executedOf (stepOf (memoriesIn l) (s .machine)) (worldOf s l)
-  step-goes {e} {j} h q p =
+  pub step-goes : (i : Instruction) {r : State} {e : Moved} {j : Memories} → lookOf (memoriesIn l) (s .machine) ≡ looks.Runs i
+      → moved e j ≡ stepOf i (memoriesIn l) (s .machine) → r ≡ grownTo s (e .machine) (grown (e .cycles .0) 1 0 0) false
+      → more (worldOf r (withMemories l j)) ≡ executedOf (lookOf (memoriesIn l) (s .machine)) (worldOf s l)
+  step-goes i {j} h q p =
       ap (λ (x : State). more (worldOf x (withMemories l j))) p
-      ∙ sym (passes _ _ (ne-eqb _ _ h))
-      ∙ ap (λ (z : Stepped). executedOf z (worldOf s l)) q
+      ∙ ap (λ (z : Stepped). more (steppedWorld z (worldOf s l))) q
+      ∙ ap (λ (k : Look). executedOf k (worldOf s l)) (sym h)
 
   -- steps 4 to 6
   pub act-enters : {cause : Cause} → pendingOf (s .machine) ≡ Due cause → actOf (worldOf s l) ≡ more (enteredWorld cause (worldOf s l))
@@ -73,12 +59,12 @@ module _ (s : State) (l : Lent) where
   act-enters e = ap (λ (p : Pending). onPending p (worldOf s l)) e
 
   module _ (e : pendingOf (s .machine) ≡ Nothing) where
-    pub act-waits : s .machine .chip .cpu .waiting ≡ true → actOf (worldOf s l) ≡ more (waitedWorld (worldOf s l))
+    pub act-waits : idles (s .machine .chip .cpu) ≡ true → actOf (worldOf s l) ≡ more (waitedWorld (worldOf s l))
     unfolding actOf
     act-waits w = ap (λ (p : Pending). onPending p (worldOf s l)) e ∙ picks _ _ w
 
-    pub act-steps : s .machine .chip .cpu .waiting ≡ false
-        → actOf (worldOf s l) ≡ executedOf (stepOf (memoriesIn l) (s .machine)) (worldOf s l)
+    pub act-steps : idles (s .machine .chip .cpu) ≡ false
+        → actOf (worldOf s l) ≡ executedOf (lookOf (memoriesIn l) (s .machine)) (worldOf s l)
     unfolding actOf
     act-steps w = ap (λ (p : Pending). onPending p (worldOf s l)) e ∙ passes _ _ w
 
@@ -124,7 +110,7 @@ sent-ready {s} e h =
     subst Ready (sym e) (record { instructions = f .instructions; entries = f .entries; leaps = f .leaps; used = f .used }, h .1)
 
 -- step 2 keeps the count, and that the counts are fine
-module _ (session memory : List ℕ) where
+module _ (session : List ℕ) (memory : Memories) where
   pub records-fine : (s : State) → Fine s → Fine (recordsOf session memory s)
   unfolding recordTaken
   records-fine s h =

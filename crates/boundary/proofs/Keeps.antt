@@ -5,10 +5,13 @@ use mathlib.Core.Path.{_≡_}
 use mathlib.Core.Bool.{true, false}
 use lib.ListN.{length}
 use Rattle.turns.specs.Turn.{Turn, Then}
+use Rattle.opcodes.specs.declared.Instruction.{Instruction}
+use Rattle.registers.specs.Cpu.{idles}
 use Rattle.machine.specs.declared.Cause.{Cause}
+use Rattle.machine.specs.declared.Look.the-variants.{Runs}
 use Rattle.machine.specs.declared.Pending.the-variants.{Due}
 use Rattle.machine.specs.Interrupts.{pendingOf}
-use Rattle.machine.specs.Steps.{stepOf}
+use Rattle.machine.specs.Steps.{lookOf, stepOf}
 use Rattle.boundary.specs.World.{memoriesIn, Terms, World, worldOf, Ended}
 use Rattle.boundary.specs.Boundary.{due, recordTaken, fedWorld, sentState, sentWorld, enteredWorld, waitedWorld, steppedWorld, actOf, boundaryOf, runOf}
 use Rattle.boundary.specs.declared.State.{State}
@@ -22,9 +25,10 @@ pub record Keeps (t : Terms) (Q : World → Type 0) : Type 0 where
   pub sent : (w : World) → w .state .sent .0 < length (w .lent .output) → Q w → Q (sentWorld w)
   pub entered : (w : World) (cause : Cause) → pendingOf (w .state .machine) ≡ Due cause → w .state .cycles .0 < t .limit → Q w
       → Q (enteredWorld cause w)
-  pub waited : (w : World) → w .state .machine .chip .cpu .waiting ≡ true → w .state .cycles .0 < t .limit → Q w → Q (waitedWorld w)
-  pub stepped : (w : World) → w .state .machine .chip .cpu .waiting ≡ false → w .state .cycles .0 < t .limit → Q w
-      → Q (steppedWorld (stepOf (memoriesIn (w .lent)) (w .state .machine)) w)
+  pub waited : (w : World) → idles (w .state .machine .chip .cpu) ≡ true → w .state .cycles .0 < t .limit → Q w → Q (waitedWorld w)
+  pub stepped : (w : World) (i : Instruction) → idles (w .state .machine .chip .cpu) ≡ false
+      → lookOf (memoriesIn (w .lent)) (w .state .machine) ≡ Runs i → w .state .cycles .0 < t .limit → Q w
+      → Q (steppedWorld (stepOf i (memoriesIn (w .lent)) (w .state .machine)) w)
 
 module _ (t : Terms) (Q : World → Type 0) (k : Keeps t Q) where
   abbrev Holds : Turn World Ended → Type 0
@@ -32,7 +36,7 @@ module _ (t : Terms) (Q : World → Type 0) (k : Keeps t Q) where
 
   act-holds : (w : World) → w .state .cycles .0 < t .limit → Q w → Holds (actOf w)
   act-holds w l q =
-      act-cases Holds w (λ cause e. k .entered w cause e l q) (λ e f. k .waited w f l q) q (λ f z. k .stepped w f l q)
+      act-cases Holds w (λ cause e. k .entered w cause e l q) (λ e f. k .waited w f l q) q (λ i f e. k .stepped w i f e l q)
 
   turn-holds : (w : World) → Q w → Holds (boundaryOf t w)
   unfolding sentState

@@ -4,42 +4,49 @@ use Prim.Native.Nat.{ℕ, suc, _+_, _≤_, _<_}
 use native.Mathlib.Omega.{arith}
 use mathlib.Core.Path.{_≡_, refl, sym}
 use mathlib.Core.Bool.{true, false, cond}
-use lib.Dec.{leb, eqb}
+use lib.Dec.{leb}
 use lib.ListN.{length}
-use borrow.Author.Tests.{leb-true, leb-false, eqb-false}
+use borrow.Author.Tests.{leb-true, leb-false}
 use Rattle.turns.specs.Turn.{Turn, more, done, onTurn, Then}
 use Rattle.turns.proofs.Laws.{then-more, then-done, loop-more, loop-done, loop-unfolds, loop-leap, loop-keeps}
+use Rattle.opcodes.specs.declared.Instruction.{Instruction}
+use Rattle.registers.specs.Cpu.{idles}
 use Rattle.machine.specs.declared.Cause.{Cause}
+use Rattle.machine.specs.declared.Look.{Look}
+use Rattle.machine.specs.declared.Look.the-variants as looks
 use Rattle.machine.specs.declared.Pending.{Pending}
 use Rattle.machine.specs.declared.Pending.the-variants.{Nothing, Due}
 use Rattle.machine.specs.Interrupts.{pendingOf}
-use Rattle.machine.specs.Steps.{entryCycles, enteredOf, stepOf}
+use Rattle.machine.specs.Steps.{entryCycles, enteredOf, lookOf, stepOf}
+use Rattle.machine.proofs.Steps.{step-cycles}
 use Rattle.boundary.specs.World.{memoriesIn, Terms, World, worldOf, Ended, endedOf}
 use Rattle.boundary.specs.Boundary.{fedWorld, sendsOf, sentState, sentWorld, enteredWorld, waitedState, waitedWorld}
-use Rattle.boundary.specs.Boundary.{steppedWorld, onPending, actOf, sendOf, boundaryOf, cyclesLeft, runOf}
+use Rattle.boundary.specs.Boundary.{steppedWorld, executedOf, onPending, actOf, sendOf, boundaryOf, cyclesLeft, runOf}
 use Rattle.boundary.specs.Counts.{Fine}
 use Rattle.boundary.specs.declared.State.{State}
 use Rattle.boundary.specs.declared.Stop.the-variants.{Limit, Undefined, Full}
-use Rattle.boundary.proofs.Picks.{cases}
+use Rattle.laws.proofs.Conds.{cases}
 use Rattle.boundary.proofs.Cases.{records-fine, records-cycles}
 
 -- each way that a boundary can go
 module _ (P : Turn World Ended → Type 0) where
   pub act-cases : (w : World)
       → ((cause : Cause) → pendingOf (w .state .machine) ≡ Due cause → P (more (enteredWorld cause w)))
-      → (pendingOf (w .state .machine) ≡ Nothing → w .state .machine .chip .cpu .waiting ≡ true → P (more (waitedWorld w)))
+      → (pendingOf (w .state .machine) ≡ Nothing → idles (w .state .machine .chip .cpu) ≡ true → P (more (waitedWorld w)))
       → P (done (endedOf Undefined w))
-      → (w .state .machine .chip .cpu .waiting ≡ false → (stepOf (memoriesIn (w .lent)) (w .state .machine) .cycles ≡ 0 → ⊥)
-      → P (more (steppedWorld (stepOf (memoriesIn (w .lent)) (w .state .machine)) w)))
+      → ((i : Instruction) → idles (w .state .machine .chip .cpu) ≡ false → lookOf (memoriesIn (w .lent)) (w .state .machine) ≡ looks.Runs i
+      → P (more (steppedWorld (stepOf i (memoriesIn (w .lent)) (w .state .machine)) w)))
       → P (actOf w)
   unfolding actOf
   act-cases w entry idle bad op = by (pendingOf (w .state .machine)) refl
     where
+      looked : idles (w .state .machine .chip .cpu) ≡ false → (k : Look) → lookOf (memoriesIn (w .lent)) (w .state .machine) ≡ k → P (executedOf k w)
+      looked f looks.Undefined e = bad
+      looked f (looks.Runs i) e = op i f e
+
       by : (p : Pending) → pendingOf (w .state .machine) ≡ p → P (onPending p w)
       by (Due cause) e = entry cause e
-      by Nothing e =
-          cases P (w .state .machine .chip .cpu .waiting) (idle e)
-          (λ f. cases P (eqb (stepOf (memoriesIn (w .lent)) (w .state .machine) .cycles) 0) (λ _. bad) (λ g. op f (eqb-false _ _ g)))
+      by Nothing e = cases P (idles (w .state .machine .chip .cpu)) (idle e) (λ f. looked f _ refl)
 
   pub boundary-cases : (t : Terms) (w : World)
       → (t .limit ≤ w .state .cycles .0 → P (done (endedOf Limit w)))
@@ -61,6 +68,11 @@ pub entry-takes : (cause : Cause) (w : World) → 0 < enteredOf cause (memoriesI
 unfolding enteredOf
 entry-takes cause w = cases (λ (k : ℕ). 0 < k) (w .state .machine .chip .cpu .waiting) {x = 4} {y = 12} (λ _. omega arith) (λ _. omega arith)
 
+-- and an instruction 2 to 12
+pub step-takes : (i : Instruction) (w : World) → lookOf (memoriesIn (w .lent)) (w .state .machine) ≡ looks.Runs i
+    → 0 < stepOf i (memoriesIn (w .lent)) (w .state .machine) .cycles
+step-takes i w e = let b = step-cycles (memoriesIn (w .lent)) (w .state .machine) i e .0 in omega arith
+
 module _ (t : Terms) where
   abbrev Falls : World → Turn World Ended → Type 0
   Falls w = Then (λ v. cyclesLeft t v < cyclesLeft t w) (λ e. Unit)
@@ -68,7 +80,7 @@ module _ (t : Terms) where
   act-falls : (v w : World) → w .state .cycles .0 ≡ v .state .cycles .0 → w .state .cycles .0 < t .limit → Falls w (actOf v)
   unfolding enteredWorld waitedState
   act-falls v w h l =
-      act-cases (Falls w) v (λ cause e. let k = entry-takes cause v in omega arith) (λ e f. omega arith) tt (λ f z. omega arith)
+      act-cases (Falls w) v (λ cause e. let k = entry-takes cause v in omega arith) (λ e f. omega arith) tt (λ i f e. let k = step-takes i v e in omega arith)
 
   -- every boundary that goes on passes a cycle
   pub run-falls : (w v : World) → boundaryOf t w ≡ more v → cyclesLeft t v < cyclesLeft t w
@@ -114,9 +126,9 @@ module _ (t : Terms) where
   unfolding enteredWorld waitedState
   act-fine w h =
       let s = w .state in
-      let i = h .instructions in
-      let e = h .entries in
-      let l = h .leaps in
+      let x = h .instructions in
+      let y = h .entries in
+      let z = h .leaps in
       act-cases FineThen w
       (λ cause e.
       let k = entry-takes cause w in
@@ -126,7 +138,9 @@ module _ (t : Terms) where
       cases (λ (d : ℕ). s .leaps .0 + d ≤ s .cycles .0 + 1) (s .inside) {x = 0} {y = 1} (λ _. omega arith) (λ _. omega arith) in
       record { instructions = omega arith; entries = omega arith; leaps = k; used = h .used })
       h
-      (λ f z. record { instructions = omega arith; entries = omega arith; leaps = omega arith; used = h .used })
+      (λ i f e.
+      let k = step-takes i w e in
+      record { instructions = omega arith; entries = omega arith; leaps = omega arith; used = h .used })
 
   pub turn-fine : (w : World) → Fine (w .state) → FineThen (boundaryOf t w)
   turn-fine w h =

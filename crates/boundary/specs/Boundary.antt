@@ -2,19 +2,23 @@
 use Prim.Native.Nat.{ℕ, _+_, _-_}
 use mathlib.Core.Bool.{Bool, true, false, cond}
 use mathlib.Core.List.{List}
-use lib.Dec.{leb, eqb}
+use lib.Dec.{leb}
 use lib.ListN.{length, set}
 use Rattle.turns.specs.Turn.{Turn, more, done, loopOf}
 use Rattle.session.specs.Session.{eventAt, nextAt, dueAt}
 use Rattle.serial.specs.Serial.{wantsToSend}
+use Rattle.registers.specs.Cpu.{idles}
+use Rattle.bus.specs.Access.{Memories}
 use Rattle.bus.specs.Units.{byteSent}
 use Rattle.machine.specs.declared.Cause.{Cause}
+use Rattle.machine.specs.declared.Look.{Look}
+use Rattle.machine.specs.declared.Look.the-variants as looks
 use Rattle.machine.specs.declared.Pending.{Pending}
 use Rattle.machine.specs.declared.Pending.the-variants.{Nothing, Due}
 use Rattle.machine.specs.Machine.{passedOf}
 use Rattle.machine.specs.Interrupts.{pendingOf}
 use Rattle.machine.specs.Events.{appliedOf, onBus}
-use Rattle.machine.specs.Steps.{Stepped, enteredOf, stepOf}
+use Rattle.machine.specs.Steps.{Stepped, enteredOf, lookOf, stepOf}
 use Rattle.boundary.specs.declared.State.{State}
 use Rattle.boundary.specs.declared.Stop.the-variants.{Limit, Undefined, Full}
 use Rattle.boundary.specs.declared.Progress.{Progress}
@@ -23,7 +27,7 @@ use Rattle.boundary.specs.declared.Turned.{Turned}
 use Rattle.boundary.specs.World.{Lent, memoriesIn, withMemories, withOutput, Terms, World, worldOf, Ended, endedOf, grown, grownTo}
 
 -- Step 2: "Apply every unused record with time not above the count, in file order."
-unfoldable pub recordTaken : List ℕ → List ℕ → State → State
+unfoldable pub recordTaken : List ℕ → Memories → State → State
 recordTaken session memory s =
     record {
       machine = appliedOf (eventAt session (s .place)) memory (s .machine);
@@ -40,10 +44,10 @@ recordTaken session memory s =
 abbrev pub due : List ℕ → State → Bool
 due session s = dueAt session (s .cycles .0) (s .place)
 
-unfoldable pub recordTurn : List ℕ → List ℕ → State → Turn State State
+unfoldable pub recordTurn : List ℕ → Memories → State → Turn State State
 recordTurn session memory s = cond (due session s) (more (recordTaken session memory s)) (done s)
 
-unfoldable pub recordsOf : List ℕ → List ℕ → State → State
+unfoldable pub recordsOf : List ℕ → Memories → State → State
 recordsOf session memory s =
     loopOf (recordTurn session memory) (λ (x : State). x) (λ (x : State). length session - x .place) s
 
@@ -87,20 +91,21 @@ waitedState s = grownTo s (passedOf 1 (s .machine)) (grown 1 0 0 (cond (s .insid
 abbrev pub waitedWorld : World → World
 waitedWorld w = worldOf (waitedState (w .state)) (w .lent)
 
--- Step 6: "Else fetch: undefined gives 8; otherwise execute." A step of no cycles is an undefined opcode.
+-- Step 6: "Else fetch: undefined gives 8; otherwise execute."
 abbrev pub steppedWorld : Stepped → World → World
 steppedWorld r w = worldOf (grownTo (w .state) (r .machine) (grown (r .cycles) 1 0 0) false) (withMemories (w .lent) (r .memory))
 
-abbrev pub executedOf : Stepped → World → Turn World Ended
-executedOf r w = cond (eqb (r .cycles) 0) (done (endedOf Undefined w)) (more (steppedWorld r w))
+abbrev pub executedOf : Look → World → Turn World Ended
+executedOf looks.Undefined w = done (endedOf Undefined w)
+executedOf (looks.Runs i) w = more (steppedWorld (stepOf i (memoriesIn (w .lent)) (w .state .machine)) w)
 
 -- steps 4 to 6
 abbrev pub onPending : Pending → World → Turn World Ended
 onPending (Due cause) w = more (enteredWorld cause w)
 onPending Nothing w =
-    cond (w .state .machine .chip .cpu .waiting)
+    cond (idles (w .state .machine .chip .cpu))
     (more (waitedWorld w))
-    (executedOf (stepOf (memoriesIn (w .lent)) (w .state .machine)) w)
+    (executedOf (lookOf (memoriesIn (w .lent)) (w .state .machine)) w)
 
 unfoldable pub actOf : World → Turn World Ended
 actOf w = onPending (pendingOf (w .state .machine)) w

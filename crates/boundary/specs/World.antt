@@ -2,6 +2,7 @@
 use Prim.Native.Nat.{ℕ, _+_}
 use mathlib.Core.Bool.{Bool}
 use mathlib.Core.List.{List}
+use Rattle.bus.specs.Access.{Memories, memories}
 use Rattle.machine.specs.declared.Machine.{Machine}
 use Rattle.boundary.specs.declared.State.{State}
 use Rattle.boundary.specs.declared.Grown.{Grown}
@@ -17,11 +18,11 @@ abbrev pub lent : List ℕ → List ℕ → Lent
 lent image output = record { image = image; output = output }
 
 -- the memories among it that accesses see, and others in their place
-abbrev pub memoriesIn : Lent → List ℕ
-memoriesIn l = l .image
+abbrev pub memoriesIn : Lent → Memories
+memoriesIn l = memories (l .image)
 
-abbrev pub withMemories : Lent → List ℕ → Lent
-withMemories l memory = lent memory (l .output)
+abbrev pub withMemories : Lent → Memories → Lent
+withMemories l memory = lent (memory .image) (l .output)
 
 abbrev pub withOutput : Lent → List ℕ → Lent
 withOutput l output = lent (l .image) output

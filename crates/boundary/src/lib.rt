@@ -6,6 +6,7 @@ use counts::Leaps;
 use counts::Records;
 use counts::Sent;
 use machine::Cause;
+use machine::Look;
 use machine::Machine;
 use machine::Pending;
 ghost use mathlib.Core.Path.{_≡_};
@@ -16,7 +17,8 @@ ghost use Rattle.boundary.specs.World.{lent, terms, worldOf, grownTo};
 ghost use Rattle.boundary.specs.Boundary.{recordTaken, recordsOf, sentState, waitedState, enteredWorld};
 ghost use Rattle.boundary.specs.Boundary.{executedOf, actOf, sendOf, boundaryOf, turned};
 ghost use Rattle.boundary.specs.Counts.{Fine, Ready, Fits};
-ghost use Rattle.machine.specs.Steps.{stepOf};
+ghost use Rattle.machine.specs.Steps.{lookOf};
+ghost use Rattle.bus.specs.Access.{memories};
 
 // A run's state: `place` is where the first unused record stands, `inside` tells that the boundary before was a waiting cycle.
 pub struct State {
@@ -83,7 +85,7 @@ impl State {
     // The record at its place is applied.
     fn take(mut self, session: &[u8], image: &[u8]) -> State
         requires { ⌜ (self .place < length (now session)) × (self .used .0 ≤ self .place) ⌝ }
-        ensures { λ r. ⌜ r ≡ recordTaken (now (session .entry)) (now (image .entry)) self ⌝ }
+        ensures { λ r. ⌜ r ≡ recordTaken (now (session .entry)) (memories (now (image .entry))) self ⌝ }
     {
         let at = self.place;
         let m = self.machine.apply(session::event_at(session, at), image);
@@ -98,10 +100,10 @@ impl State {
     // Step 2.
     fn apply_records(self, session: &[u8], image: &[u8]) -> State
         requires { ⌜ self .used .0 ≤ self .place ⌝ }
-        ensures { λ r. ⌜ r ≡ recordsOf (now (session .entry)) (now (image .entry)) self ⌝ }
+        ensures { λ r. ⌜ r ≡ recordsOf (now (session .entry)) (memories (now (image .entry))) self ⌝ }
     {
         let mut s = self;
-        while session::is_due(session, s.cycles.0, s.place) {
+        while session::is_due(session, s.cycles, s.place) {
             s = s.take(session, image);
         }
         s
@@ -126,8 +128,9 @@ impl State {
         ensures { λ r. ⌜ ((o : List ℕ) → worldOf r (lent (now (image .exit)) o) ≡ enteredWorld cause (worldOf self (lent (now (image .entry)) o))) ⌝ }
     {
         let e = self.machine.enter(cause, image);
+        let cycles = e.cycles;
         let by = Grown {
-            cycles: Cycles(e.cycles as u32),
+            cycles: cycles,
             instructions: Instructions(0),
             entries: Entries(1),
             leaps: Leaps(0),
@@ -140,7 +143,7 @@ impl State {
         requires { ⌜ Ready self ⌝ }
         ensures { λ r. ⌜ r ≡ waitedState self ⌝ }
     {
-        let m = self.machine.pass(1);
+        let m = self.machine.pass(Cycles(1));
         let leaps = if self.inside { 0 } else { 1 };
         let by = Grown {
             cycles: Cycles(1),
@@ -155,24 +158,28 @@ impl State {
     fn step(self, image: &mut [u8]) -> Turned
         requires { ⌜ Ready self ⌝ }
         ensures { λ r. ⌜ ((o : List ℕ) → turned r (lent (now (image .exit)) o)
-            ≡ executedOf (stepOf (now (image .entry)) (self .machine)) (worldOf self (lent (now (image .entry)) o))) ⌝ }
+            ≡ executedOf (lookOf (memories (now (image .entry))) (self .machine)) (worldOf self (lent (now (image .entry)) o))) ⌝ }
     {
-        let e = self.machine.step(image);
-        if e.cycles == 0 {
-            return Turned {
+        let look = self.machine.look(image);
+        match look {
+            Look::Undefined => Turned {
                 state: self,
                 progress: Progress::Stopped(Stop::Undefined),
-            };
-        }
-        let by = Grown {
-            cycles: Cycles(e.cycles as u32),
-            instructions: Instructions(1),
-            entries: Entries(0),
-            leaps: Leaps(0),
-        };
-        Turned {
-            state: self.moved(e.machine, by, false),
-            progress: Progress::Going,
+            },
+            Look::Runs(i) => {
+                let e = self.machine.step(i, image);
+                let cycles = e.cycles;
+                let by = Grown {
+                    cycles: cycles,
+                    instructions: Instructions(1),
+                    entries: Entries(0),
+                    leaps: Leaps(0),
+                };
+                Turned {
+                    state: self.moved(e.machine, by, false),
+                    progress: Progress::Going,
+                }
+            }
         }
     }
 
@@ -188,7 +195,7 @@ impl State {
                 progress: Progress::Going,
             },
             Pending::Nothing => {
-                if self.machine.chip.cpu.waiting {
+                if self.machine.chip.cpu.idles() {
                     return Turned {
                         state: self.wait(),
                         progress: Progress::Going,

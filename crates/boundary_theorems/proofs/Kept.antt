@@ -3,16 +3,17 @@
 use Prim.Native.Nat.{ℕ, _+_, _≤_, _<_}
 use native.Mathlib.Omega.{arith}
 use mathlib.Core.List.{List}
-use mathlib.Core.Path.{_≡_, refl, ap, _∙_}
-use mathlib.Core.Logic.{_⊎_, ⊎-elim}
+use mathlib.Core.Path.{_≡_, refl, _∙_}
+use mathlib.Core.Logic.{⊎-elim}
 use lib.ListN.{length}
 use Rattle.turns.specs.Turn.{Then}
 use Rattle.session.specs.Session.{checkFrom, checkOf, timeAt}
 use Rattle.session.specs.declared.Checked.the-variants.{Sound}
-use Rattle.session.proofs.Laws.{Step, sound-step, due-there}
+use Rattle.session.proofs.Laws.{next-after, Step, sound-step, due-there}
+use Rattle.bus.specs.Access.{Memories}
 use Rattle.machine.specs.declared.Machine.{Machine}
 use Rattle.machine.specs.declared.Cause.{Cause}
-use Rattle.machine.specs.Steps.{Stepped, enteredOf, stepOf}
+use Rattle.machine.specs.Steps.{enteredOf}
 use Rattle.machine.proofs.Steps.{step-cycles, step-length, entered-cycles, entered-length}
 use Rattle.boundary.specs.World.{Lent, memoriesIn, Terms, World, Ended}
 use Rattle.boundary.specs.Boundary.{recordTaken, sentState, enteredWorld, waitedState, runOf}
@@ -21,7 +22,6 @@ use Rattle.boundary.specs.Start.{startOf, startWorld, ranOf}
 use Rattle.boundary.specs.declared.State.{State}
 use Rattle.boundary.specs.declared.Stop.{Stop}
 use Rattle.boundary.specs.declared.Stop.the-variants.{Limit, Undefined, Full}
-use Rattle.boundary.proofs.Feeding.{next-after}
 use Rattle.boundary.proofs.Cases.{records-cycles}
 use Rattle.boundary.proofs.Runs.{act-cases, boundary-cases, run-keeps, turn-fine}
 use Rattle.boundary.proofs.Keeps.{Keeps, run-holds}
@@ -35,18 +35,14 @@ lengths t k =
       sent = λ w l h. h;
       entered = λ w cause e l h. entered-length cause (memoriesIn (w .lent)) (w .state .machine) ∙ h;
       waited = λ w f l h. h;
-      stepped = λ w f l h. step-length (memoriesIn (w .lent)) (w .state .machine) ∙ h;
+      stepped = λ w i f e l h. step-length i (memoriesIn (w .lent)) (w .state .machine) ∙ h;
     }
 
 pub image-length : (t : Terms) (w : World) → length (runOf t w .world .lent .image) ≡ length (w .lent .image)
 image-length t w = run-holds t (λ v. length (v .lent .image) ≡ length (w .lent .image)) (lengths t (length (w .lent .image))) w refl
 
 -- a step or an entry takes at most 12 cycles, so that a run ends at most 11 past its limit
-step-most : (memory : List ℕ) (m : Machine) → stepOf memory m .cycles ≤ 12
-step-most memory m =
-    ⊎-elim (λ e. let z = ap (λ (s : Stepped). s .cycles) e in omega arith) (λ w. w .1) (step-cycles memory m)
-
-entry-most : (cause : Cause) (memory : List ℕ) (m : Machine) → enteredOf cause memory m .cycles ≤ 12
+entry-most : (cause : Cause) (memory : Memories) (m : Machine) → enteredOf cause memory m .cycles ≤ 12
 entry-most cause memory m = ⊎-elim (λ e. omega arith) (λ e. omega arith) (entered-cycles cause memory m)
 
 below : (t : Terms) → Keeps t (λ w. w .state .cycles .0 ≤ t .limit + 11)
@@ -57,7 +53,7 @@ below t =
       sent = λ w l h. h;
       entered = λ w cause e l h. let k = entry-most cause (memoriesIn (w .lent)) (w .state .machine) in omega arith;
       waited = λ w f l h. omega arith;
-      stepped = λ w f l h. let k = step-most (memoriesIn (w .lent)) (w .state .machine) in omega arith;
+      stepped = λ w i f e l h. let k = step-cycles (memoriesIn (w .lent)) (w .state .machine) i e .1 in omega arith;
     }
 
 pub cycles-bound : (t : Terms) (m : Machine) (l : Lent) → ranOf t m l .world .state .cycles .0 ≤ t .limit + 11
@@ -82,8 +78,8 @@ module _ (t : Terms) where
       boundary-cases (Then (λ v. Unit) Ends) t v
       (λ l. l)
       (λ l. omega arith)
-      (λ l g. act-cases (Then (λ v. Unit) Ends) _ (λ cause e. tt) (λ e f. tt) (omega arith) (λ f z. tt))
-      (λ l. act-cases (Then (λ v. Unit) Ends) _ (λ cause e. tt) (λ e f. tt) (omega arith) (λ f z. tt)))
+      (λ l g. act-cases (Then (λ v. Unit) Ends) _ (λ cause e. tt) (λ e f. tt) (omega arith) (λ i f e. tt))
+      (λ l. act-cases (Then (λ v. Unit) Ends) _ (λ cause e. tt) (λ e f. tt) (omega arith) (λ i f e. tt)))
       w tt
 
 -- from a start, instructions, entries and leaps are at most the cycles, and records used at most the place
@@ -115,7 +111,7 @@ grows s t =
           record { place = h .place; used = h .used; cycles = omega arith; instructions = omega arith; entries = omega arith; sent = h .sent; leaps = omega arith };
       waited = λ w f l h.
           record { place = h .place; used = h .used; cycles = omega arith; instructions = omega arith; entries = omega arith; sent = h .sent; leaps = omega arith };
-      stepped = λ w f l h.
+      stepped = λ w i f e l h.
           record { place = h .place; used = h .used; cycles = omega arith; instructions = omega arith; entries = omega arith; sent = h .sent; leaps = omega arith };
     }
 
@@ -144,7 +140,7 @@ ahead t =
       sent = λ w l h. record { before = h .before; sound = h .sound; within = h .within };
       entered = λ w cause e l h. record { before = h .before; sound = h .sound; within = h .within };
       waited = λ w f l h. record { before = h .before; sound = h .sound; within = h .within };
-      stepped = λ w f l h. record { before = h .before; sound = h .sound; within = h .within };
+      stepped = λ w i f e l h. record { before = h .before; sound = h .sound; within = h .within };
     }
 
 pub start-ahead : (session : List ℕ) (m : Machine) → checkOf session ≡ Sound → Ahead session (startOf m)

@@ -3,6 +3,7 @@ use Prim.Native.Nat.{ℕ, _+_, _≤_}
 use native.Mathlib.Omega.{arith}
 use mathlib.Core.Path.{_≡_, refl, sym, _∙_}
 use mathlib.Core.Bool.{Bool, true, false, cond, false≢true}
+use Rattle.registers.specs.Cpu.{idles}
 use Rattle.machine.specs.declared.Machine.{Machine}
 use Rattle.boundary.specs.World.{Lent, Terms}
 use Rattle.boundary.specs.Boundary.{recordTaken, sentState, enteredWorld, waitedState}
@@ -10,9 +11,9 @@ use Rattle.boundary.specs.Start.{startWorld, ranOf}
 use Rattle.boundary.specs.declared.State.{State}
 use Rattle.boundary.proofs.Keeps.{Keeps, run-holds}
 
--- right after a waiting cycle the machine waits, and one leap more may have begun than records, bytes and interrupts tell
+-- right after a waiting cycle the machine idles, and one leap more may have begun than records, bytes and interrupts tell
 record Bounded (s : State) : Type 0 where
-  waits : s .inside ≡ true → s .machine .chip .cpu .waiting ≡ true
+  waits : s .inside ≡ true → idles (s .machine .chip .cpu) ≡ true
   count : s .leaps .0 ≤ s .used .0 + s .sent .0 + s .entries .0 + cond (s .inside) 1 0
 
 most : (b : Bool) → cond b 1 0 ≤ 1
@@ -36,7 +37,7 @@ bounded t =
       sent = λ w l h. let z = h .count in let y = most (w .state .inside) in record { waits = λ e. absurd (false≢true e); count = omega arith };
       entered = λ w cause e l h. let z = h .count in let y = most (w .state .inside) in record { waits = λ e. absurd (false≢true e); count = omega arith };
       waited = λ w f l h. let z = goes-on _ _ (w .state .inside) (h .count) in record { waits = λ _. f; count = omega arith };
-      stepped = λ w f l h.
+      stepped = λ w i f e l h.
           let z = over _ _ (w .state .inside) (λ i. false≢true (sym f ∙ h .waits i)) (h .count) in
           record { waits = λ e. absurd (false≢true e); count = omega arith };
     }

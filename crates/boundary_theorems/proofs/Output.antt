@@ -40,7 +40,7 @@ filled before k t =
       sent = λ w l h. filled-byte before (w .lent .output) k (w .state .sent .0) _ h l;
       entered = λ w cause e l h. h;
       waited = λ w f l h. h;
-      stepped = λ w f l h. h;
+      stepped = λ w i f e l h. h;
     }
 
 -- from any world on: no more is sent than there is room for, and no byte changes but those that are sent

@@ -5,19 +5,19 @@ use mathlib.Core.List.{List}
 use mathlib.Core.Path.{_≡_, refl, _∙_}
 use mathlib.Core.Bool.{false}
 use lib.ListN.{getD}
+use Rattle.opcodes.specs.declared.Instruction.{Instruction}
 use Rattle.session.specs.declared.Event.{Event}
 use Rattle.session.specs.declared.Event.the-variants.{Port1, Port2, Irq1, Nmi, Received, Idle, Reset}
 use Rattle.session.specs.Session.{eventAt}
-use Rattle.bus.specs.Access.{takes}
+use Rattle.bus.specs.Access.{Memories, takes}
 use Rattle.bus.specs.Units.{passed}
-use Rattle.bus.proofs.Ranges.{read-r}
 use Rattle.cpu.proofs.Trees.{run-r}
 use Rattle.machine.specs.declared.Machine.{Machine}
 use Rattle.machine.specs.declared.Cause.{Cause}
 use Rattle.machine.specs.Events.{appliedOf}
-use Rattle.machine.specs.Steps.{Stepped, enteredOf, instructed, stepOf}
+use Rattle.machine.specs.Steps.{enteredOf, stepOf}
 use Rattle.machine.proofs.Reset.{reset-is}
-use Rattle.machine.proofs.Steps.{step-cases, step-untaken, entered-untaken}
+use Rattle.machine.proofs.Steps.{step-untaken, entered-untaken}
 use Rattle.boundary.specs.World.{memoriesIn, Terms, World}
 use Rattle.boundary.specs.Boundary.{recordTaken, sentState, enteredWorld, waitedState, runOf}
 use Rattle.boundary.proofs.Keeps.{Keeps, run-holds}
@@ -25,7 +25,7 @@ use Rattle.boundary.proofs.Keeps.{Keeps, run-holds}
 abbrev start : Machine → ℕ
 start m = m .chip .bus .r
 
-applied-r : (e : Event) (memory : List ℕ) (m : Machine) → start (appliedOf e memory m) ≡ start m
+applied-r : (e : Event) (memory : Memories) (m : Machine) → start (appliedOf e memory m) ≡ start m
 unfolding appliedOf
 applied-r (Port1 v) memory m = refl
 applied-r (Port2 v) memory m = refl
@@ -35,16 +35,13 @@ applied-r (Received v stop) memory m = refl
 applied-r Idle memory m = refl
 applied-r Reset memory m = reset-is memory m .bus .r
 
-entered-r : (cause : Cause) (memory : List ℕ) (m : Machine) → start (enteredOf cause memory m .machine) ≡ start m
+entered-r : (cause : Cause) (memory : Memories) (m : Machine) → start (enteredOf cause memory m .machine) ≡ start m
 unfolding enteredOf passed
 entered-r cause memory m = run-r _ _ memory
 
-step-r : (memory : List ℕ) (m : Machine) → start (stepOf memory m .machine) ≡ start m
-unfolding instructed passed
-step-r memory m =
-    step-cases (λ (s : Stepped). start (s .machine) ≡ start m) memory m
-    (λ e. refl)
-    (λ i e. run-r _ _ memory ∙ read-r memory (m .chip .cpu .pc) (m .chip .bus))
+step-r : (i : Instruction) (memory : Memories) (m : Machine) → start (stepOf i memory m .machine) ≡ start m
+unfolding stepOf passed
+step-r i memory m = run-r _ _ memory
 
 -- R is r, and the byte at a is v
 abbrev Same : ℕ → ℕ → ℕ → World → Type 0
@@ -61,10 +58,10 @@ same r a v taken t =
           let memory = memoriesIn (w .lent) in
           (entered-r cause memory m ∙ h .0, entered-untaken cause memory m a (rw (h .0) taken) ∙ h .1);
       waited = λ w f l h. h;
-      stepped = λ w f l h.
+      stepped = λ w i f e l h.
           let m = w .state .machine in
           let memory = memoriesIn (w .lent) in
-          (step-r memory m ∙ h .0, step-untaken memory m a (rw (h .0) taken) ∙ h .1);
+          (step-r i memory m ∙ h .0, step-untaken i memory m a (rw (h .0) taken) ∙ h .1);
     }
 
 pub read-only-kept : (t : Terms) (w : World) (a : ℕ) → takes (w .state .machine .chip .bus .r) a ≡ false

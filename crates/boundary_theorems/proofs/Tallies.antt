@@ -5,30 +5,33 @@ use native.Mathlib.Omega.{arith}
 use mathlib.Core.Path.{_≡_, refl, sym, ap, _∙_}
 use mathlib.Core.Bool.{Bool, true, false, cond}
 use mathlib.Core.List.{List, [], _∷_, _++_}
-use lib.Dec.{leb, eqb}
+use lib.Dec.{leb}
 use lib.ListN.{length}
-use borrow.Author.Tests.{eqb-true}
 use Rattle.turns.specs.Turn.{Turn, more, done, Then}
 use Rattle.turns.specs.Recorded.{total}
 use Rattle.turns.proofs.Laws.{on-more, loop-more, loop-done}
 use Rattle.turns.proofs.Recorded.{rows-keep}
 use Rattle.session.specs.Session.{nextAt, dueAt}
-use Rattle.session.proofs.Laws.{due-there}
+use Rattle.session.proofs.Laws.{next-after, due-there}
+use Rattle.registers.specs.Cpu.{idles}
+use Rattle.bus.specs.Access.{Memories}
 use Rattle.machine.specs.declared.Machine.{Machine}
+use Rattle.machine.specs.declared.Look.{Look}
+use Rattle.machine.specs.declared.Look.the-variants.{Undefined, Runs}
 use Rattle.machine.specs.declared.Pending.{Pending}
 use Rattle.machine.specs.declared.Pending.the-variants.{Nothing, Due}
 use Rattle.machine.specs.Interrupts.{pendingOf}
-use Rattle.machine.specs.Steps.{enteredOf, stepOf}
+use Rattle.machine.specs.Steps.{enteredOf, lookOf, stepOf}
 use Rattle.boundary.specs.declared.State.{State}
 use Rattle.boundary.specs.World.{Lent, memoriesIn, Terms, World, Ended}
 use Rattle.boundary.specs.Boundary.{recordTaken, recordsOf, fedWorld, sendsOf, sentState, sentWorld, enteredWorld, waitedState, waitedWorld}
 use Rattle.boundary.specs.Boundary.{executedOf, onPending, actOf, sendOf, boundaryOf, runOf}
 use Rattle.boundary.specs.Start.{startWorld, ranOf}
-use Rattle.boundary.proofs.Picks.{picks, passes, cases}
-use Rattle.boundary.proofs.Feeding.{next-after, records-end, records-keep}
+use Rattle.laws.proofs.Conds.{picks, passes, cases2}
+use Rattle.boundary.proofs.Feeding.{records-end, records-keep}
 use Rattle.boundary.proofs.Cases.{records-cycles}
 use Rattle.boundary.proofs.Runs.{run-falls}
-use Rattle.boundary_theorems.specs.Tallies.{Tally, tally, Passed, dueTurn, dueAfter, dueFrom, cyclesBy, cyclesAt, tallyOf, talliesOf}
+use Rattle.boundary_theorems.specs.Tallies.{Tally, tally, Passed, dueTurn, dueAfter, dueFrom, lookCycles, cyclesBy, cyclesAt, tallyOf, talliesOf}
 use Rattle.boundary_theorems.proofs.Stretches.{total-snoc}
 
 -- how many records are due from a place on, with k before it
@@ -55,7 +58,7 @@ module _ (session : List ℕ) (count : ℕ) where
   due-done k place e = loop-done (dueTurn session count) _ _ due-fall (passes _ _ e)
 
 -- step 2 uses the records that are due
-records-used : (session memory : List ℕ) (s : State) → recordsOf session memory s .used .0 ≡ s .used .0 + dueFrom session (s .cycles .0) (s .place)
+records-used : (session : List ℕ) (memory : Memories) (s : State) → recordsOf session memory s .used .0 ≡ s .used .0 + dueFrom session (s .cycles .0) (s .place)
 unfolding recordTaken
 records-used session memory s =
     let k =
@@ -93,7 +96,7 @@ records-used session memory s =
     put : (a b d : ℕ) → d ≡ b - a → a ≤ b → b ≡ a + d
     put a b d e h = omega arith
 
-records-sent : (session memory : List ℕ) (s : State) → recordsOf session memory s .sent .0 ≡ s .sent .0
+records-sent : (session : List ℕ) (memory : Memories) (s : State) → recordsOf session memory s .sent .0 ≡ s .sent .0
 unfolding recordTaken
 records-sent session memory s = records-keep session memory (λ (x : State). x .sent .0 ≡ s .sent .0) (λ x d h. h) s refl
 
@@ -115,30 +118,23 @@ module _ (s : State) (a b : ℕ) (w : World) (h : Adds (tally a b 0) s (w .state
   takes k = ap (λ (c : ℕ). c + k) (h .cycles ∙ sym (plus-none (s .cycles .0) 0 refl))
 
   act-adds : AddsThen s (tally a b (cyclesAt (memoriesIn (w .lent)) (w .state .machine))) (actOf w)
-  unfolding actOf enteredWorld waitedState enteredOf
+  unfolding actOf enteredWorld waitedState enteredOf stepOf
   act-adds = by (pendingOf (w .state .machine))
     where
-      k : ℕ
-      k = stepOf (memoriesIn (w .lent)) (w .state .machine) .cycles
+      looked : (k : Look) → AddsThen s (tally a b (lookCycles k)) (executedOf k w)
+      looked Undefined = record { cycles = h .cycles; used = h .used; sent = h .sent }
+      looked (Runs i) = record { cycles = takes _; used = h .used; sent = h .sent }
 
-      goes : (waiting : Bool)
-          → AddsThen s (tally a b (cond waiting 1 k))
-          (cond waiting (more (waitedWorld w)) (executedOf (stepOf (memoriesIn (w .lent)) (w .state .machine)) w))
+      look : Look
+      look = lookOf (memoriesIn (w .lent)) (w .state .machine)
+
+      goes : (idle : Bool) → AddsThen s (tally a b (cond idle 1 (lookCycles look))) (cond idle (more (waitedWorld w)) (executedOf look w))
       goes true = record { cycles = takes 1; used = h .used; sent = h .sent }
-      goes false =
-          cases (AddsThen s (tally a b k)) (eqb k 0)
-          (λ e. record { cycles = h .cycles ∙ ap (λ (j : ℕ). s .cycles .0 + j) (sym (eqb-true _ _ e)); used = h .used; sent = h .sent })
-          (λ _. record { cycles = takes k; used = h .used; sent = h .sent })
+      goes false = looked look
 
       by : (p : Pending) → AddsThen s (tally a b (cyclesBy p (memoriesIn (w .lent)) (w .state .machine))) (onPending p w)
       by (Due cause) = record { cycles = takes _; used = h .used; sent = h .sent }
-      by Nothing = goes (w .state .machine .chip .cpu .waiting)
-
--- what holds of both sides of two picks by one test
-cases2 : {A B : Type 0} (P : A → B → Type 0) (b : Bool) {x y : A} {u v : B} → (b ≡ true → P x u) → (b ≡ false → P y v)
-    → P (cond b x y) (cond b u v)
-cases2 P true f g = f refl
-cases2 P false f g = g refl
+      by Nothing = goes (idles (w .state .machine .chip .cpu))
 
 -- the counts of a state are the totals of the tallies
 pub record Told (ts : List Tally) (s : State) : Type 0 where

@@ -4,22 +4,27 @@ use Prim.Native.Nat.{ℕ, _+_}
 use mathlib.Core.Path.{_≡_, refl, sym, ap, subst, _∙_}
 use mathlib.Core.Bool.{Bool, true, false, not, cond, _&&_}
 use mathlib.Core.List.{List, [], _∷_, _++_, append-nil}
-use lib.Dec.{leb, eqb}
+use lib.Dec.{leb}
 use lib.ListN.{length}
 use Rattle.turns.specs.Turn.{Turn, more, done, Then}
 use Rattle.turns.proofs.Recorded.{rows-keep}
+use Rattle.registers.specs.Cpu.{idles}
+use Rattle.bus.specs.Access.{Memories}
 use Rattle.machine.specs.declared.Machine.{Machine}
+use Rattle.machine.specs.declared.Look.{Look}
+use Rattle.machine.specs.declared.Look.the-variants.{Undefined, Runs}
 use Rattle.machine.specs.declared.Pending.{Pending}
 use Rattle.machine.specs.declared.Pending.the-variants.{Nothing, Due}
 use Rattle.machine.specs.Interrupts.{pendingOf}
-use Rattle.machine.specs.Steps.{stepOf}
+use Rattle.machine.specs.Steps.{lookOf}
 use Rattle.boundary.specs.declared.State.{State}
 use Rattle.boundary.specs.declared.Stop.the-variants.{Full}
 use Rattle.boundary.specs.World.{Lent, memoriesIn, Terms, World, worldOf, Ended, endedOf}
 use Rattle.boundary.specs.Boundary.{recordTaken, due, recordsOf, fedWorld, sendsOf, sentState, sentWorld, enteredWorld, waitedState, waitedWorld}
 use Rattle.boundary.specs.Boundary.{executedOf, onPending, actOf, sendOf, boundaryOf, runOf}
 use Rattle.boundary.specs.Start.{startWorld, ranOf}
-use Rattle.boundary.proofs.Picks.{cases}
+use Rattle.laws.proofs.Bools.{and-true, and-false}
+use Rattle.laws.proofs.Conds.{cases}
 use Rattle.boundary.proofs.Feeding.{records-more, records-done, records-keep}
 use Rattle.boundary.proofs.Runs.{run-falls}
 use Rattle.boundary_theorems.specs.Trace.{Taken, entry, waitingCycle, instruction, isEntry, isInstruction, stepBy, takenBy}
@@ -55,10 +60,6 @@ record Follows (ms : List Mark) (q : Bool) (s : State) : Type 0 where
 abbrev Marked : List Mark → Mark → Turn World Ended → Type 0
 Marked ms x = Then (λ v. Follows (ms ++ x ∷ []) true (v .state)) (λ e. Counted ms (e .world .state))
 
-and-true : (a : Bool) → (a && true) ≡ a
-and-true true = refl
-and-true false = refl
-
 -- steps 4 to 6, at a boundary where a record was applied (a) and a byte sent (b)
 module _ (ms : List Mark) (a b : Bool) (w : World) (h : Follows ms (not a && not b) (w .state)) where
   abbrev mark : Taken → Mark
@@ -79,18 +80,19 @@ module _ (ms : List Mark) (a b : Bool) (w : World) (h : Follows ms (not a && not
           → Follows (ms ++ mark t ∷ []) true s
       counted t s l e i f = after t s (counted-more ms (mark t) (w .state) s (h .counted) l e i) f
 
-      goes : (waiting : Bool)
-          → Marked ms (mark (cond waiting waitingCycle instruction))
-          (cond waiting (more (waitedWorld w)) (executedOf (stepOf (memoriesIn (w .lent)) (w .state .machine)) w))
-      goes true = counted waitingCycle _ (ap (λ (i : Bool). w .state .leaps .0 + cond i 0 1) (h .inside)) refl refl refl
-      goes false =
-          cases (Marked ms (mark instruction)) (eqb (stepOf (memoriesIn (w .lent)) (w .state .machine) .cycles) 0)
-          (λ _. h .counted)
-          (λ _. counted instruction _ refl refl refl refl)
+      looked : (k : Look) → Marked ms (mark instruction) (executedOf k w)
+      looked Undefined = h .counted
+      looked (Runs i) = counted instruction _ refl refl refl refl
 
-      by : (p : Pending) → Marked ms (mark (stepBy p (w .state .machine .chip .cpu .waiting))) (onPending p w)
+      goes : (idle : Bool)
+          → Marked ms (mark (cond idle waitingCycle instruction))
+          (cond idle (more (waitedWorld w)) (executedOf (lookOf (memoriesIn (w .lent)) (w .state .machine)) w))
+      goes true = counted waitingCycle _ (ap (λ (i : Bool). w .state .leaps .0 + cond i 0 1) (h .inside)) refl refl refl
+      goes false = looked (lookOf (memoriesIn (w .lent)) (w .state .machine))
+
+      by : (p : Pending) → Marked ms (mark (stepBy p (idles (w .state .machine .chip .cpu)))) (onPending p w)
       by (Due cause) = counted entry _ refl refl refl refl
-      by Nothing = goes (w .state .machine .chip .cpu .waiting)
+      by Nothing = goes (idles (w .state .machine .chip .cpu))
 
 -- step 2 keeps the counts, and tells by `inside` whether there was a record
 module _ (session : List ℕ) (w : World) where
@@ -108,18 +110,14 @@ module _ (session : List ℕ) (w : World) where
       s : State
       s = w .state
 
-      memory : List ℕ
+      memory : Memories
       memory = memoriesIn (w .lent)
-
-      never : (i : Bool) → (i && false) ≡ false
-      never true = refl
-      never false = refl
 
       by : (d : Bool) → due session s ≡ d → recordsOf session memory s .inside ≡ (s .inside && not d)
       by true e =
           ap (λ (x : State). x .inside) (records-more session memory s e)
           ∙ records-keep session memory (λ (x : State). x .inside ≡ false) (λ x d h. refl) (recordTaken session memory s) refl
-          ∙ sym (never (s .inside))
+          ∙ sym (and-false (s .inside))
       by false e = ap (λ (x : State). x .inside) (records-done session memory s e) ∙ sym (and-true (s .inside))
 
 module _ (t : Terms) where

@@ -13,7 +13,7 @@ use Rattle.ports.specs.Ports.{resetPorts}
 use Rattle.timer.specs.Timer.{ticks, resetTimer}
 use Rattle.serial.specs.Serial.{trcsOf, readSerial, writeSerial, idleLine, wantsToSend, sentOf, ticksSerial, resetSerial, serialRequest}
 use Rattle.bus.specs.declared.Bus.{Bus}
-use Rattle.bus.specs.Access.{readOf, writeOf, storeOf}
+use Rattle.bus.specs.Access.{memories, readOf, writeOf, storeOf}
 use Rattle.bus.specs.Units.{passed, resetBus}
 use Rattle.cpu.specs.Act.{run, read, write, _>>=_}
 use Rattle.cpu.specs.Instructions.{read2, operand, dyadic, sta, push, push2, stackAll, vectored, wai, enter, operate, execute}
@@ -22,7 +22,7 @@ use Rattle.machine.specs.declared.Machine.{Machine}
 use Rattle.machine.specs.Machine.{onChip, resetAct, resetOf, cold}
 use Rattle.machine.specs.Interrupts.{pendingOf}
 use Rattle.machine.specs.Events.{appliedOf, onBus}
-use Rattle.machine.specs.Steps.{enteredOf, instructed, stepOf}
+use Rattle.machine.specs.Steps.{enteredOf, lookOf, stepOf}
 use Rattle.machine.proofs.Worked.{Row, _is_, found, meant}
 use Rattle.boundary.specs.World.{lent, terms, Ended, stopNumber}
 use Rattle.boundary.specs.Boundary.{recordTaken, recordTurn, recordsOf, sentState, enteredWorld, waitedState, actOf, sendOf, boundaryOf, runOf}
@@ -32,12 +32,12 @@ use Rattle.boundary_theorems.specs.Trace.{markOf, traceOf, groups}
 -- a machine after reset with PC at $0004, the stack at $0087 and I clear, waiting or not
 abbrev start : Bool → Machine
 start waiting =
-    let m = resetOf [] (cold 65536) in
+    let m = resetOf (memories []) (cold 65536) in
     onChip m (record { a = 0; b = 0; x = 0; sp = 0x87; pc = 4; codes = codesOf 0xC0; waiting = waiting }) (m .chip .bus)
 
 -- it waits, with TE set and the byte 41 to be sent
 abbrev sender : Machine
-sender = onBus (start true) (writeOf 0x13 0x41 (readOf [] 0x11 (writeOf 0x11 0x02 (start true .chip .bus)) .next))
+sender = onBus (start true) (writeOf 0x13 0x41 (readOf (memories []) 0x11 (writeOf 0x11 0x02 (start true .chip .bus)) .next))
 
 -- four bytes of code at $0004, and zeros up to $0087
 abbrev image : List ℕ → List ℕ
@@ -85,6 +85,6 @@ pub worked : map found table ≡ map meant table
 unfolding turns loopOf decodeOf codesByte codesOf movedOf dyadicOf resetPorts ticks resetTimer trcsOf readSerial writeSerial idleLine wantsToSend
     sentOf ticksSerial resetSerial serialRequest readOf writeOf storeOf passed resetBus run read write _>>=_ read2 operand dyadic sta push push2
     stackAll vectored wai enter operate execute lengthAt kindAt timeAt payloadAt nextAt eventOf dueAt resetAct resetOf pendingOf appliedOf
-    enteredOf instructed stepOf recordTaken recordTurn recordsOf sentState enteredWorld waitedState actOf sendOf boundaryOf runOf markOf visits
+    enteredOf lookOf stepOf recordTaken recordTurn recordsOf sentState enteredWorld waitedState actOf sendOf boundaryOf runOf markOf visits
     pathOf rowsOf traceOf
 worked = refl

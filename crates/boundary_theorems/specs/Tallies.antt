@@ -7,11 +7,15 @@ use lib.ListN.{length}
 use Rattle.turns.specs.Turn.{Turn, more, done, loopOf}
 use Rattle.turns.specs.Recorded.{rowsOf}
 use Rattle.session.specs.Session.{nextAt, dueAt}
+use Rattle.registers.specs.Cpu.{idles}
+use Rattle.bus.specs.Access.{Memories}
 use Rattle.machine.specs.declared.Machine.{Machine}
+use Rattle.machine.specs.declared.Look.{Look}
+use Rattle.machine.specs.declared.Look.the-variants.{Undefined, Runs}
 use Rattle.machine.specs.declared.Pending.{Pending}
 use Rattle.machine.specs.declared.Pending.the-variants.{Nothing, Due}
 use Rattle.machine.specs.Interrupts.{pendingOf}
-use Rattle.machine.specs.Steps.{entryCycles, stepOf}
+use Rattle.machine.specs.Steps.{entryCycles, lookOf}
 use Rattle.boundary.specs.World.{memoriesIn, Terms, World}
 use Rattle.boundary.specs.Boundary.{fedWorld, sendsOf, sentState, boundaryOf, cyclesLeft}
 
@@ -42,11 +46,15 @@ abbrev pub dueFrom : List ℕ → ℕ → ℕ → ℕ
 dueFrom session count place = dueAfter session count (record { place = place; records = 0 })
 
 -- Steps 4 to 6: the cycles of an entry, of waiting or of an instruction; an undefined opcode takes none
-abbrev pub cyclesBy : Pending → List ℕ → Machine → ℕ
-cyclesBy (Due cause) memory m = entryCycles m
-cyclesBy Nothing memory m = cond (m .chip .cpu .waiting) 1 (stepOf memory m .cycles)
+abbrev pub lookCycles : Look → ℕ
+lookCycles Undefined = 0
+lookCycles (Runs i) = i .cycles
 
-abbrev pub cyclesAt : List ℕ → Machine → ℕ
+abbrev pub cyclesBy : Pending → Memories → Machine → ℕ
+cyclesBy (Due cause) memory m = entryCycles m
+cyclesBy Nothing memory m = cond (idles (m .chip .cpu)) 1 (lookCycles (lookOf memory m))
+
+abbrev pub cyclesAt : Memories → Machine → ℕ
 cyclesAt memory m = cyclesBy (pendingOf m) memory m
 
 -- a boundary: nothing at the limit; else the records due, the byte that is to be sent, and the cycles; neither of these where there is no room

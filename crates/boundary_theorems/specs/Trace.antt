@@ -5,6 +5,7 @@ use mathlib.Core.Bool.{Bool, true, false, not, cond, _&&_}
 use mathlib.Core.List.{List, [], _∷_}
 use Rattle.turns.specs.Turn.{Turn, more, done}
 use Rattle.turns.specs.Recorded.{rowsOf, countOf}
+use Rattle.registers.specs.Cpu.{idles}
 use Rattle.machine.specs.declared.Machine.{Machine}
 use Rattle.machine.specs.declared.Pending.{Pending}
 use Rattle.machine.specs.declared.Pending.the-variants.{Nothing, Due}
@@ -19,11 +20,11 @@ pub data Taken : Type 0 where
   instruction : Taken
 
 abbrev pub stepBy : Pending → Bool → Taken
-stepBy (Due cause) waiting = entry
-stepBy Nothing waiting = cond waiting waitingCycle instruction
+stepBy (Due cause) idle = entry
+stepBy Nothing idle = cond idle waitingCycle instruction
 
 abbrev pub takenBy : Machine → Taken
-takenBy m = stepBy (pendingOf m) (m .chip .cpu .waiting)
+takenBy m = stepBy (pendingOf m) (idles (m .chip .cpu))
 
 -- what a boundary that goes on did: whether a record was applied there, whether a byte was sent there, and its step
 pub record Mark : Type 0 where

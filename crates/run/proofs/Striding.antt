@@ -1,11 +1,12 @@
 -- Plain instructions with nothing else between them: the run is the same from where they end. Assumes nothing.
 use Prim.Native.Nat.{ℕ, _+_, _-_, _≤_, _<_}
 use native.Mathlib.Omega.{arith}
-use mathlib.Core.Bool.{Bool, true, false, not, _&&_, _||_, Bool·beq, and-true, and-false, true≢false}
+use mathlib.Core.Bool.{Bool, true, false, not, _&&_, _||_, Bool·beq, true≢false}
 use mathlib.Core.List.{List}
 use mathlib.Core.Path.{_≡_, refl, sym, ap, subst, _∙_}
 use lib.Dec.{leb, eqb}
 use borrow.Author.Tests.{leb-false, ne-eqb}
+use Rattle.laws.proofs.Bools.{neither, and-true, and-false}
 use Rattle.turns.specs.Turn.{more}
 use Rattle.timer.specs.Timer.{ticks}
 use Rattle.serial.specs.Serial.{ticksSerial, serialRequest}
@@ -24,12 +25,10 @@ use Rattle.boundary.specs.declared.State.{State}
 use Rattle.boundary.specs.World.{lent, Terms, worldOf, grown, grownTo}
 use Rattle.boundary.specs.Boundary.{sendOf, executedOf, boundaryOf}
 use Rattle.boundary.specs.Counts.{Fine, Fits}
-use Rattle.boundary.proofs.Picks.{passes}
 use Rattle.boundary.proofs.Feeding.{records-done}
 use Rattle.boundary.proofs.Cases.{below-limit, send-rests, act-steps}
 use Rattle.boundary.proofs.Runs.{run-more}
 use Rattle.run.specs.Leaps.{isDue, First, stirs, strodeOf, Goes, Paced}
-use Rattle.run.proofs.Rooms.{neither}
 use Rattle.run.proofs.Waiting.{accepts, later, not-due, same}
 
 -- other registers with the same I accept the same

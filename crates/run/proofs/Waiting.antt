@@ -8,12 +8,14 @@ use mathlib.Core.Path.{_≡_, refl, sym, ap, subst, _∙_}
 use lib.Dec.{leb, eqb}
 use lib.ListN.{length}
 use borrow.Author.Tests.{leb-true, leb-false, le-leb, lt-leb, lt-ltb, le-ltb, eq-eqb, ne-eqb}
+use Rattle.laws.proofs.Bools.{neither, both}
 use Rattle.turns.specs.Turn.{more}
 use Rattle.timer.specs.Timer.{ticks}
 use Rattle.timer.proofs.Closed.{ticks-untouched}
 use Rattle.serial.specs.declared.Serial.{Serial as Transmitter}
 use Rattle.serial.specs.Serial.{ticksSerial, serialRequest, wantsToSend}
 use Rattle.serial.proofs.Cycles.{ticks-request, ticks-closed}
+use Rattle.registers.specs.Cpu.{idles}
 use Rattle.bus.specs.Units.{passed}
 use Rattle.session.specs.Session.{timeAt, dueAt}
 use Rattle.machine.specs.declared.Machine.{Machine}
@@ -31,7 +33,7 @@ use Rattle.boundary.proofs.Feeding.{records-done}
 use Rattle.boundary.proofs.Cases.{below-limit, send-rests, act-waits}
 use Rattle.boundary.proofs.Runs.{run-leap}
 use Rattle.run.specs.Leaps.{isDue, endsLeap, First, stirs, Leapt}
-use Rattle.run.proofs.Rooms.{neither, both}
+
 
 -- what decides whether an interrupt is accepted: a pending NMI; or, with I clear, a cause that is there now, OCF or TOF
 abbrev pub accepts : Bool → Bool → Bool → Bool → Bool → Bool
@@ -81,14 +83,6 @@ free busy j = by (leb busy j) refl
     by true e = let h = leb-true busy j e in eq-eqb (busy - j) 0 (omega arith)
     by false e = let h = leb-false busy j e in ne-eqb (busy - j) 0 (λ (z : busy - j ≡ 0). omega arith)
 
--- a record's time, counted from now
-pub from-now : (time count j : ℕ) → count < time → leb time (count + j) ≡ leb (time - count) j
-from-now time count j l = by (leb (time - count) j) refl
-  where
-    by : (t : Bool) → leb (time - count) j ≡ t → leb time (count + j) ≡ t
-    by true e = let h = leb-true (time - count) j e in le-leb time (count + j) (omega arith)
-    by false e = let h = leb-false (time - count) j e in lt-leb time (count + j) (omega arith)
-
 module _ (session : List ℕ) (count at : ℕ) where
   pub no-record : length session ≤ at → (j : ℕ) → dueAt session (count + j) at ≡ false
   unfolding dueAt
@@ -133,7 +127,7 @@ still-suc : (s : State) (j : ℕ) → waitedState (still s j) ≡ still s (suc j
 unfolding waitedState passed ticks ticksSerial
 still-suc s j = same s refl (omega arith) (omega arith) (omega arith) (omega arith) refl
 
-module _ (t : Terms) (s : State) (ins : s .inside ≡ true) (wait : s .machine .chip .cpu .waiting ≡ true) where
+module _ (t : Terms) (s : State) (ins : s .inside ≡ true) (wait : idles (s .machine .chip .cpu) ≡ true) where
   -- as long as nothing stirs, the waiting cycles may be passed at once
   pub leap-law : (k : ℕ) → First (t .limit - s .cycles .0) k (stirs t s) → (l : Lent) → runOf t (worldOf s l) ≡ runOf t (worldOf (still s k) l)
   unfolding passed
@@ -184,7 +178,7 @@ limit-ends t s h = by _ _ _ _ (le-leb (t .limit) (s .cycles .0) h)
     by true b c d e = refl
     by false b c d e = absurd (false≢true e)
 
-pub leapt : (t : Terms) (s : State) (k : ℕ) {r : State} {m : Machine} → (s .inside && s .machine .chip .cpu .waiting) ≡ true
+pub leapt : (t : Terms) (s : State) (k : ℕ) {r : State} {m : Machine} → (s .inside && idles (s .machine .chip .cpu)) ≡ true
     → First (t .limit - s .cycles .0) k (stirs t s) → Fine s → m ≡ passedOf k (s .machine) → r ≡ grownTo s m (grown k 0 0 0) true
     → Leapt t s r
 leapt t s k w h f p q =

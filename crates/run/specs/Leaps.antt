@@ -10,6 +10,7 @@ use Rattle.session.specs.Session.{dueAt}
 use Rattle.serial.specs.Serial.{wantsToSend, ticksSerial}
 use Rattle.bus.specs.Units.{passed}
 use Rattle.registers.specs.declared.Cpu.{Cpu}
+use Rattle.registers.specs.Cpu.{idles}
 use Rattle.machine.specs.declared.Pending.{Pending}
 use Rattle.machine.specs.declared.Pending.the-variants.{Nothing, Due}
 use Rattle.machine.specs.Machine.{onChip, passedOf}
@@ -43,7 +44,7 @@ stirs t s j =
 abbrev pub Leapt : Terms → State → State → Type 0
 Leapt t s r =
     Fine r × (s .cycles .0 ≤ r .cycles .0)
-    × ((s .inside && s .machine .chip .cpu .waiting) ≡ true → endsLeap t r ≡ true)
+    × ((s .inside && idles (s .machine .chip .cpu)) ≡ true → endsLeap t r ≡ true)
     × ((l : Lent) → runOf t (worldOf s l) ≡ runOf t (worldOf r l))
 
 -- the state after plain instructions: the registers are c, and on the bus only their cycles have passed

@@ -118,14 +118,14 @@ fn leap(session: &[u8], n: u32, s: State) -> State
     requires { ⌜ Fine s × (n ≤ 1000000000) ⌝ }
     ensures { λ r. ⌜ Leapt (terms (now (session .entry)) n) s r ⌝ }
 {
-    if !(s.inside & s.machine.chip.cpu.waiting) {
+    if !(s.inside & s.machine.chip.cpu.idles()) {
         return s;
     }
     if n <= s.cycles.0 {
         return s;
     }
     let k = room(session, n, s);
-    let m = s.machine.pass(k);
+    let m = s.machine.pass(Cycles(k));
     let by = Grown {
         cycles: Cycles(k),
         instructions: Instructions(0),
@@ -174,7 +174,7 @@ fn stride(session: &[u8], n: u32, s: State, image: &mut [u8]) -> State
     let mut cycles = 0;
     let mut instructions = 0;
     loop {
-        if (room <= cycles) | c.waiting | (c.codes.i != masked) {
+        if (room <= cycles) | c.idles() | (c.codes.i != masked) {
             return strode(s, c, Cycles(cycles), Instructions(instructions));
         }
         let h = plain::step(c, start, image);
@@ -192,7 +192,7 @@ fn pace(leaping: bool, session: &[u8], n: u32, s: State, image: &mut [u8]) -> St
     requires { ⌜ Fine s × (n ≤ 1000000000) ⌝ }
     ensures { λ r. ⌜ Paced (terms (now (session .entry)) n) s (now (image .entry)) r (now (image .exit)) ⌝ }
 {
-    if s.machine.chip.cpu.waiting {
+    if s.machine.chip.cpu.idles() {
         if leaping {
             return leap(session, n, s);
         }
