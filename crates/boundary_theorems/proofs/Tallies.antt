@@ -10,7 +10,7 @@ use lib.ListN.{length}
 use Rattle.turns.specs.Turn.{Turn, more, done, Then}
 use Rattle.turns.specs.Recorded.{total}
 use Rattle.turns.proofs.Laws.{on-more, loop-more, loop-done}
-use Rattle.turns.proofs.Recorded.{rows-keep}
+use Rattle.turns.proofs.Recorded.{total-last, rows-keep}
 use Rattle.session.specs.Session.{nextAt, dueAt}
 use Rattle.session.proofs.Laws.{next-after, due-there}
 use Rattle.registers.specs.Cpu.{idles}
@@ -32,7 +32,6 @@ use Rattle.boundary.proofs.Feeding.{records-end, records-keep}
 use Rattle.boundary.proofs.Cases.{records-cycles}
 use Rattle.boundary.proofs.Runs.{run-falls}
 use Rattle.boundary_theorems.specs.Tallies.{Tally, tally, Passed, dueTurn, dueAfter, dueFrom, lookCycles, cyclesBy, cyclesAt, tallyOf, talliesOf}
-use Rattle.boundary_theorems.proofs.Stretches.{total-snoc}
 
 -- how many records are due from a place on, with k before it
 module _ (session : List ℕ) (count : ℕ) where
@@ -145,9 +144,9 @@ pub record Told (ts : List Tally) (s : State) : Type 0 where
 told-more : (ts : List Tally) (t : Tally) (s r : State) → Told ts s → Adds t s r → Told (ts ++ t ∷ []) r
 told-more ts t s r h d =
     record {
-      cycles = put _ _ _ _ _ (d .cycles) (h .cycles) (total-snoc (λ (t : Tally). t .cycles) ts t);
-      used = put _ _ _ _ _ (d .used) (h .used) (total-snoc (λ (t : Tally). t .records) ts t);
-      sent = put _ _ _ _ _ (d .sent) (h .sent) (total-snoc (λ (t : Tally). t .bytes) ts t);
+      cycles = put _ _ _ _ _ (d .cycles) (h .cycles) (total-last (λ (t : Tally). t .cycles) ts t);
+      used = put _ _ _ _ _ (d .used) (h .used) (total-last (λ (t : Tally). t .records) ts t);
+      sent = put _ _ _ _ _ (d .sent) (h .sent) (total-last (λ (t : Tally). t .bytes) ts t);
     }
   where
     put : (x y k a b : ℕ) → x ≡ y + k → y ≡ a → b ≡ a + k → x ≡ b

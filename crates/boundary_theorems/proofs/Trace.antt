@@ -7,7 +7,7 @@ use mathlib.Core.List.{List, [], _∷_, _++_, append-nil}
 use lib.Dec.{leb}
 use lib.ListN.{length}
 use Rattle.turns.specs.Turn.{Turn, more, done, Then}
-use Rattle.turns.proofs.Recorded.{rows-keep}
+use Rattle.turns.proofs.Recorded.{total-last, rows-keep}
 use Rattle.registers.specs.Cpu.{idles}
 use Rattle.bus.specs.Access.{Memories}
 use Rattle.machine.specs.declared.Machine.{Machine}
@@ -29,7 +29,7 @@ use Rattle.boundary.proofs.Feeding.{records-more, records-done, records-keep}
 use Rattle.boundary.proofs.Runs.{run-falls}
 use Rattle.boundary_theorems.specs.Trace.{Taken, entry, waitingCycle, instruction, isEntry, isInstruction, stepBy, takenBy}
 use Rattle.boundary_theorems.specs.Trace.{Mark, markOf, markIf, marksAt, traceOf, waits, stretchesOf, entriesOf, instructionsOf}
-use Rattle.boundary_theorems.proofs.Stretches.{leaps-none, lastWaits, last-snoc, opens, leaps-snoc, total-snoc}
+use Rattle.boundary_theorems.proofs.Stretches.{leaps-none, lastWaits, last-snoc, opens, leaps-snoc}
 
 -- the counts of a state are those of the marks so far
 pub record Counted (ms : List Mark) (s : State) : Type 0 where
@@ -45,11 +45,11 @@ counted-more : (ms : List Mark) (x : Mark) (s t : State) → Counted ms s
 counted-more ms x s t h l e i =
     record {
       leaps = l ∙ ap (λ (k : ℕ). k + opens ms x) (h .leaps) ∙ sym (leaps-snoc ms x);
-      entries = e ∙ ap (λ (k : ℕ). k + cond (isEntry (x .taken)) 1 0) (h .entries) ∙ sym (total-snoc (λ (m : Mark). cond (isEntry (m .taken)) 1 0) ms x);
+      entries = e ∙ ap (λ (k : ℕ). k + cond (isEntry (x .taken)) 1 0) (h .entries) ∙ sym (total-last (λ (m : Mark). cond (isEntry (m .taken)) 1 0) ms x);
       instructions =
           i
           ∙ ap (λ (k : ℕ). k + cond (isInstruction (x .taken)) 1 0) (h .instructions)
-          ∙ sym (total-snoc (λ (m : Mark). cond (isInstruction (m .taken)) 1 0) ms x);
+          ∙ sym (total-last (λ (m : Mark). cond (isInstruction (m .taken)) 1 0) ms x);
     }
 
 -- `inside` tells that the last mark waits; within a boundary, also that there was no record and no sending so far (q)

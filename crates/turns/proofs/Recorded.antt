@@ -20,6 +20,9 @@ pub total-append : {A : Type 0} (part : A → ℕ) (l m : List A) → total part
 total-append part [] m = omega arith
 total-append part (x ∷ l) m = let h = total-append part l m in omega arith
 
+pub total-last : {A : Type 0} (part : A → ℕ) (l : List A) (x : A) → total part (l ++ x ∷ []) ≡ total part l + part x
+total-last part l x = let h = total-append part l (x ∷ []) in omega arith
+
 pub total-ones : {A : Type 0} (l : List A) → total (λ x. 1) l ≡ length l
 total-ones [] = refl
 total-ones (x ∷ l) = let h = total-ones l in omega arith
