@@ -4,17 +4,13 @@ use Prim.Native.Nat.{ℕ, _+_, _≤_, _<_}
 use native.Mathlib.Omega.{arith}
 use mathlib.Core.List.{List}
 use mathlib.Core.Path.{_≡_, refl, _∙_}
-use mathlib.Core.Logic.{⊎-elim}
 use lib.ListN.{length}
 use Rattle.turns.specs.Turn.{Then}
 use Rattle.session.specs.Session.{checkFrom, checkOf, timeAt}
 use Rattle.session.specs.declared.Checked.the-variants.{Sound}
 use Rattle.session.proofs.Laws.{next-after, Step, sound-step, due-there}
-use Rattle.bus.specs.Access.{Memories}
 use Rattle.machine.specs.declared.Machine.{Machine}
-use Rattle.machine.specs.declared.Cause.{Cause}
-use Rattle.machine.specs.Steps.{enteredOf}
-use Rattle.machine.proofs.Steps.{step-cycles, step-length, entered-cycles, entered-length}
+use Rattle.machine.proofs.Steps.{step-cycles, step-length, entered-length}
 use Rattle.boundary.specs.World.{Lent, memoriesIn, Terms, World, Ended}
 use Rattle.boundary.specs.Boundary.{recordTaken, sentState, enteredWorld, waitedState, runOf}
 use Rattle.boundary.specs.Counts.{Fine}
@@ -22,7 +18,7 @@ use Rattle.boundary.specs.Start.{startOf, startWorld, ranOf}
 use Rattle.boundary.specs.declared.State.{State}
 use Rattle.boundary.specs.declared.Stop.{Stop}
 use Rattle.boundary.specs.declared.Stop.the-variants.{Limit, Undefined, Full}
-use Rattle.boundary.proofs.Cases.{records-cycles}
+use Rattle.boundary.proofs.Cases.{entry-most, records-cycles}
 use Rattle.boundary.proofs.Runs.{act-cases, boundary-cases, run-keeps, turn-fine}
 use Rattle.boundary.proofs.Keeps.{Keeps, run-holds}
 
@@ -42,9 +38,6 @@ pub image-length : (t : Terms) (w : World) → length (runOf t w .world .lent .i
 image-length t w = run-holds t (λ v. length (v .lent .image) ≡ length (w .lent .image)) (lengths t (length (w .lent .image))) w refl
 
 -- a step or an entry takes at most 12 cycles, so that a run ends at most 11 past its limit
-entry-most : (cause : Cause) (memory : Memories) (m : Machine) → enteredOf cause memory m .cycles ≤ 12
-entry-most cause memory m = ⊎-elim (λ e. omega arith) (λ e. omega arith) (entered-cycles cause memory m)
-
 below : (t : Terms) → Keeps t (λ w. w .state .cycles .0 ≤ t .limit + 11)
 unfolding recordTaken sentState enteredWorld waitedState
 below t =
