@@ -21,14 +21,14 @@ use Rattle.operations.specs.declared.Pushing.{Pushing}
 use Rattle.operations.specs.declared.Pushing.the-variants as pushing
 
 -- no access
-abbrev pub branchOf : Branch → ℕ → Cpu → Cpu
-branchOf test at c = cond (takenOf test (c .codes)) (withPc c at) c
+abbrev pub branch : Branch → ℕ → Cpu → Cpu
+branch test at c = cond (takenOf test (c .codes)) (withPc c at) c
 
 unfoldable pub quietOf : Quiet → ℕ → Cpu → Cpu
 quietOf (quiet.Internal op) at c = internalOf op c
 quietOf (quiet.Monadic op acc) at c = resultIn acc c (monadicOf op (accumulator acc c) (c .codes))
 quietOf (quiet.Tst acc) at c = withCodes c (testedOf (accumulator acc c) (c .codes))
-quietOf (quiet.Branch test) at c = branchOf test at c
+quietOf (quiet.Branch test) at c = branch test at c
 quietOf quiet.Jmp at c = withPc c at
 
 -- a byte is loaded; a pull's is above SP

@@ -14,7 +14,7 @@ use opcodes::WideStore;
 use registers::Cpu;
 ghost use mathlib.Core.Path.{_≡_};
 ghost use Rattle.operations.specs.Shapes.{targetOf, monadicShape, tstShape, shapeOf};
-ghost use Rattle.operations.specs.Operations.{branchOf, quietOf, loadAt, loadedOf, loadWordAt, loadedWordOf};
+ghost use Rattle.operations.specs.Operations.{branch, quietOf, loadAt, loadedOf, loadWordAt, loadedWordOf};
 ghost use Rattle.operations.specs.Operations.{storeAt, byteOf, storedThen, storedWordThen, wordOf, pushedThen};
 
 // What an operation on one byte is for.
@@ -133,7 +133,7 @@ pub fn shape_of(operation: Operation, place: Place) -> Shape
 }
 
 fn branch(test: Branch, at: u16, c: Cpu) -> Cpu
-    ensures { λ r. ⌜ r ≡ branchOf test at c ⌝ }
+    ensures { λ r. ⌜ r ≡ branch test at c ⌝ }
 {
     if arithmetic::taken(test, c.codes) {
         c.with_pc(at)
@@ -172,7 +172,10 @@ impl Loading {
         ensures { λ r. ⌜ r ≡ loadedOf self v c ⌝ }
     {
         match self {
-            Loading::Dyadic(op, acc) => c.result(acc, arithmetic::dyadic(op, c.of(acc), v, c.codes)),
+            Loading::Dyadic(op, acc) => c.result(
+                acc,
+                arithmetic::dyadic(op, c.of(acc), v, c.codes),
+            ),
             Loading::Tst => c.with_codes(arithmetic::tested(v, c.codes)),
             Loading::Pul(acc) => c.with_sp(plus(c.sp, 1)).with(acc, v),
         }

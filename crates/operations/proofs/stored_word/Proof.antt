@@ -8,7 +8,7 @@ unfolding storedWordThen
 stored-word-spec =
     tie.close
     (tie.spec
-    (λ c κs. search needs) -- stored-requires
-    (λ c κs. search needs) -- moved16-requires
-    (λ c κs. search needs) -- with-codes-requires
-    (λ c. rw (c .with-codes .ensures, c .before .moved16 .ensures, c .before .before .stored .ensures))) -- returns
+    (λ c κs. search needs)  -- stored-requires
+    (λ c κs. search needs)  -- moved16-requires
+    (λ c κs. search needs)  -- with-codes-requires
+    (λ c. rw (c .with-codes .ensures, c .before .moved16 .ensures, c .before .before .stored .ensures)))  -- returns

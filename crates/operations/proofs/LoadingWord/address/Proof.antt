@@ -8,11 +8,11 @@ unfolding loadWordAt
 address-spec =
     tie.close
     (tie.spec
-    (λ c. search needs) -- enum-known-self
-    (λ c. search needs) -- enum-told
-    (λ c κs. search needs) -- plus-requires
-    (λ c. search needs) -- enum-told-2
-    (λ c κs. search needs) -- plus-requires-2
-    (λ c. rw (c .before .self .given .1)) -- returns
-    (λ c. rw (c .before .enum-told .given .1, c .plus .ensures)) -- returns-2
-    (λ c. rw (c .before .enum-told2 .given .1, c .plus2 .ensures))) -- returns-3
+    (λ c. search needs)  -- enum-known-self
+    (λ c. search needs)  -- enum-told
+    (λ c κs. search needs)  -- plus-requires
+    (λ c. search needs)  -- enum-told-2
+    (λ c κs. search needs)  -- plus-requires-2
+    (λ c. rw (c .before .self .given .1))  -- returns
+    (λ c. rw (c .before .enum-told .given .1, c .plus .ensures))  -- returns-2
+    (λ c. rw (c .before .enum-told2 .given .1, c .plus2 .ensures)))  -- returns-3

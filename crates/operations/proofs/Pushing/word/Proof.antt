@@ -8,7 +8,7 @@ unfolding wordOf
 word-spec =
     tie.close
     (tie.spec
-    (λ c. search needs) -- enum-told
-    (λ c. search needs) -- enum-told-2
-    (λ c. rw (c .enum-told .given .1)) -- returns
-    (λ c. rw (c .enum-told2 .given .1))) -- returns-2
+    (λ c. search needs)  -- enum-told
+    (λ c. search needs)  -- enum-told-2
+    (λ c. rw (c .enum-told .given .1))  -- returns
+    (λ c. rw (c .enum-told2 .given .1)))  -- returns-2

@@ -8,7 +8,7 @@ unfolding storeAt
 address-spec =
     tie.close
     (tie.spec
-    (λ c. search needs) -- enum-known-self
-    (λ c. search needs) -- enum-known-self-2
-    (λ c. rw (c .before .self .given .1)) -- returns
-    (λ c. rw (c .before .self2 .given .1))) -- returns-2
+    (λ c. search needs)  -- enum-known-self
+    (λ c. search needs)  -- enum-known-self-2
+    (λ c. rw (c .before .self .given .1))  -- returns
+    (λ c. rw (c .before .self2 .given .1)))  -- returns-2

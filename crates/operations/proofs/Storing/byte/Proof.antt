@@ -8,9 +8,9 @@ unfolding byteOf
 byte-spec =
     tie.close
     (tie.spec
-    (λ c. search needs) -- enum-known-self
-    (λ c κs. search needs) -- of-requires
-    (λ c. search needs) -- enum-known-self-2
-    (λ c κs. search needs) -- of-requires-2
-    (λ c. rw (c .before .before .self .given .1, c .of .ensures)) -- returns
-    (λ c. rw (c .before .before .self2 .given .1, c .of2 .ensures))) -- returns-2
+    (λ c. search needs)  -- enum-known-self
+    (λ c κs. search needs)  -- of-requires
+    (λ c. search needs)  -- enum-known-self-2
+    (λ c κs. search needs)  -- of-requires-2
+    (λ c. rw (c .before .before .self .given .1, c .of .ensures))  -- returns
+    (λ c. rw (c .before .before .self2 .given .1, c .of2 .ensures)))  -- returns-2
