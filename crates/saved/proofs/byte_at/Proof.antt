@@ -11,4 +11,4 @@ byte-at-spec =
     tie.close
     (tie.spec
     (λ c κs. search needs)  -- byte-at-requires
-    (λ c. c .byte-at .ensures ∙ ap (λ k. getD (c .before .args .bytes .now) k 0) (zero-add (c .before .args .k))))  -- returns
+    (λ c. let a = c .before .before .args in c .byte-at .ensures ∙ ap (λ k. getD (a .bytes .now) k 0) (zero-add (a .k))))  -- returns
