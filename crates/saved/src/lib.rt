@@ -1,4 +1,4 @@
-// The machine as bytes: saving and loading, in the layout of docs/SAVED.md.
+// The machine as bytes: saving and loading, in the layout of docs/FORMATS.md.
 use arithmetic::Codes;
 use bits::Flag;
 use bits::byte_of;
