@@ -21,5 +21,17 @@ loaded-spec =
     (λ c κs. search needs)  -- with-sp-requires-2
     (λ c κs. search needs)  -- with-pc-requires
     (λ c. rw (c .before .before .self .given .1, c .wide .ensures))  -- returns
-    (λ c. rw (c .before .before .before .before .enum-told .given .1, c .with-x .ensures, c .before .with-sp .ensures, c .before .before .plus2 .ensures, c .before .before .before .plus .ensures))  -- returns-2
-    (λ c. rw (c .before .before .before .before .enum-told2 .given .1, c .with-pc .ensures, c .before .with-sp2 .ensures, c .before .before .plus4 .ensures, c .before .before .before .plus3 .ensures)))  -- returns-3
+    (λ c. rw (
+      c .before .before .before .before .enum-told .given .1,
+      c .with-x .ensures,
+      c .before .with-sp .ensures,
+      c .before .before .plus2 .ensures,
+      c .before .before .before .plus .ensures,
+    ))  -- returns-2
+    (λ c. rw (
+      c .before .before .before .before .enum-told2 .given .1,
+      c .with-pc .ensures,
+      c .before .with-sp2 .ensures,
+      c .before .before .plus4 .ensures,
+      c .before .before .before .plus3 .ensures,
+    )))  -- returns-3
