@@ -34,7 +34,6 @@ use Rattle.boundary.proofs.Cases.{below-limit, send-rests, act-waits}
 use Rattle.boundary.proofs.Runs.{run-leap}
 use Rattle.run.specs.Leaps.{isDue, endsLeap, First, stirs, Leapt}
 
-
 -- what decides whether an interrupt is accepted: a pending NMI; or, with I clear, a cause that is there now, OCF or TOF
 abbrev pub accepts : Bool → Bool → Bool → Bool → Bool → Bool
 accepts nmi i now ocf tof = nmi || (not i && (now || (ocf || tof)))

@@ -17,7 +17,9 @@ leap-spec =
     let s = c .before .before .before .before .args .s in
     let out = waits s (c .before .before .idles .ensures) (not-true _ (c .if1 .taken)) in
     (c .before .before .before .before .pre .0, omega arith, λ e. absurd (true≢false (sym e ∙ out)), λ l. refl))  -- returns
-    (λ c. (c .before .before .before .before .before .before .pre .0, omega arith, λ e. limit-ends _ (c .before .before .before .before .before .before .args .s) (c .if2 .taken), λ l. refl))  -- returns-2
+    (λ c.
+    let s = c .before .before .before .before .before .before .args .s in
+    (c .before .before .before .before .before .before .pre .0, omega arith, λ e. limit-ends _ s (c .if2 .taken), λ l. refl))  -- returns-2
     (λ c κs. let h = c .if2 .left in omega (arith, h))  -- room-requires
     (λ c κs. search needs)  -- pass-requires
     (λ c κs.
