@@ -64,3 +64,29 @@ module _ (s : List ℕ) (u c : ℕ) where
         → onKeep t s rest (toldRest r) ≡ keepingOf t s u c
     unfolding keepingOf
     keeps-rest e b l r f = ap (onKeep t s rest) (f ∙ same-answer b l) ∙ sym (picks _ _ e)
+
+-- the same, of a session that is the first so many bytes of its buffer
+module _ (size : ℕ) (session spare : List ℕ) (h : size ≤ length session) (k : size ≤ length spare) (u c : ℕ) where
+  abbrev had : List ℕ
+  had = take size session
+
+  short : length had ≤ length spare
+  short = let l = length-take-le size session h in omega arith
+
+  pub keeps-had : (t : Told) → stops (t .number) ≡ true → (r : Rested) → toldRest r ≡ restAnswer had u c spare
+      → onKeep t had (restOf had u c) (toldRest r) ≡ keepingOf t had u c
+  keeps-had t e r f = keeps-rest had u c t e spare short r f
+
+  module _ {n : ℕ} (e : wrote n ≡ restAnswer had u c spare) where
+    pub written-size : n ≤ size
+    written-size =
+        let l = length-take-le size session h in
+        let w = written-fits had u c spare e in
+        omega arith
+
+    -- it is within the buffer that it was written to, and there is room for it in the session's
+    pub written-within : {spare′ : List ℕ} → length spare′ ≡ length spare → n ≤ length spare′
+    written-within f = let w = written-size in omega arith
+
+    pub written-room : (spare′ : List ℕ) → length (take n spare′) ≤ length session
+    written-room spare′ = let w = written-size in let l = length-take n spare′ in omega arith
