@@ -10,23 +10,34 @@ use lib.ListN.{length, take, drop}
 use lib.Seq.{take-append-seam}
 use Rattle.machine.specs.declared.Machine.{Machine}
 use Rattle.machine.proofs.Ranges.{ranges-say, say-ranges}
+use Rattle.replies.specs.Replies.{Told, told}
 use Rattle.boundary.specs.declared.Stop.{Stop}
 use Rattle.boundary.specs.declared.Stop.the-variants.{Limit, Undefined, Full}
-use Rattle.boundary.specs.Boundary.{World, runOf}
+use Rattle.boundary.specs.World.{Lent, withOutput, Terms, terms, World}
+use Rattle.boundary.specs.Boundary.{runOf}
 use Rattle.boundary.specs.Start.{startWorld, ranOf}
+<<<<<<< HEAD
 use Rattle.boundary.proofs.Kept.{image-length}
 use Rattle.boundary.proofs.Output.{filled-part}
 use Rattle.boundary.proofs.InRanges.{run-ranges}
 use Rattle.replies.specs.Replies.{Told, told}
 use Rattle.cabinet.specs.Replies.{toldStop}
+=======
+use Rattle.boundary_theorems.proofs.Kept.{image-length}
+use Rattle.boundary_theorems.proofs.Output.{filled-part}
+use Rattle.boundary_theorems.proofs.InRanges.{run-ranges}
+>>>>>>> composing
 use Rattle.cabinet.specs.declared.Ran.{Ran}
-use Rattle.cabinet.specs.Answers.{End, endAt, endOf, Answer, answerAt, answered, answerOf, leapsOf}
-use Rattle.cabinet.proofs.Exactly.{Admitted, admitted-end, reply-0}
-use Rattle.cabinet.proofs.Settled.{Single}
+use Rattle.cabinet.specs.Answers.{toldStop, End, endAt, endOf, Answer, answerAt, answered, answerOf, leapsOf}
+use Rattle.cabinet_theorems.proofs.Exactly.{Admitted, admitted-end, reply-0}
+use Rattle.cabinet_theorems.proofs.Settled.{Single}
 use Rattle.rest.specs.Rest.{restOf}
-use Rattle.composing.specs.Joined.{joined}
 use Rattle.rest.specs.Answers.{wrote, restAnswer, restBuffer}
 use Rattle.rest.proofs.Exactly.{rest-written, rest-left}
+<<<<<<< HEAD
+=======
+use Rattle.composing.specs.Joined.{termsAfter, lentAfter, joined}
+>>>>>>> composing
 use Rattle.composing.proofs.Raised.{raised, apart-most}
 use Rattle.composing.proofs.Second.{pastOf, secondOf, restAfter, used-within, after-sound, after-short, runs-raise}
 
@@ -38,7 +49,7 @@ limit-told Full e = let z : _≡_ {A = ℕ} 9 0 = ap (λ (t : Told). t .number) 
 
 -- a world with what the first run had done, and the two answers as one
 joins : (t t₁ : Told) (w u v : World) (leaps : ℕ) (inside : Bool) → w ≡ raised (pastOf u) v leaps inside
-    → length (take (u .state .sent .0) (u .output)) ≡ u .state .sent .0
+    → length (take (u .state .sent .0) (u .lent .output)) ≡ u .state .sent .0
     → answerAt (endAt t w) ≡ joined (answerAt (endAt t₁ u)) (answerAt (endAt t v))
 joins t t₁ w u v leaps inside e l =
     let x = u .state in
@@ -52,63 +63,67 @@ joins t t₁ w u v leaps inside e l =
       entries = x .entries .0 + y .entries .0;
       used = x .used .0 + y .used .0;
       sent = l k + y .sent .0;
-      image = v .image;
-      output = take (x .sent .0) (u .output) ++ v .output;
+      lent = withOutput (v .lent) (take (x .sent .0) (u .lent .output) ++ v .lent .output);
     } in
     ap (λ (z : World). answerAt (endAt t z)) e ∙ joint
 
-module _ (image : List ℕ) (m : Machine) (session : List ℕ) (n₁ n : ℕ) (output : List ℕ) where
-  -- what a second run gets from how the first ended: its image and machine, the rest of the session, what is left of N, and the room
-  -- that is left
-  abbrev again : End → End
-  again x =
-      let w = x .world in
-      let s = w .state in
-      endOf (w .image) (s .machine) (restOf session (s .used .0) (s .cycles .0)) (n - s .cycles .0) (drop (s .sent .0) (w .output))
+module _ (session : List ℕ) (n₁ n : ℕ) (m : Machine) (given : Lent) where
+  -- the two questions
+  abbrev asked₁ : Terms
+  asked₁ = terms session n₁
+
+  abbrev asked : Terms
+  asked = terms session n
+
+  -- how the one run ends, the first, and the second by what it gets from how the first ended
+  abbrev whole : End
+  whole = let e = ranOf asked m given in endAt (toldStop (e .stop)) (e .world)
 
   abbrev here : End
-  here = let e = ranOf session n₁ m image output in endAt (toldStop (e .stop)) (e .world)
+  here = let e = ranOf asked₁ m given in endAt (toldStop (e .stop)) (e .world)
 
-  abbrev whole : End
-  whole = let e = ranOf session n m image output in endAt (toldStop (e .stop)) (e .world)
+  abbrev again : End → End
+  again x =
+      let s = x .world .state in
+      endOf (termsAfter (s .used .0) (s .cycles .0) asked) (s .machine) (lentAfter (s .sent .0) (x .world .lent))
 
   abbrev left : End
   left =
-      let w = ranOf session n₁ m image output .world in
-      let e = runOf (restAfter session m image output n₁) (n - w .state .cycles .0) (secondOf w) in
+      let s = here .world .state in
+      let e = runOf (termsAfter (s .used .0) (s .cycles .0) asked) (secondOf (here .world)) in
       endAt (toldStop (e .stop)) (e .world)
 
-  module _ (h : Admitted image m session n₁ output) (l : n₁ ≤ n) (b : n ≤ 1000000000) where
-    whole-end : endOf image m session n output ≡ whole
+  module _ (h : Admitted asked₁ m given) (l : n₁ ≤ n) (b : n ≤ 1000000000) where
+    whole-end : endOf asked m given ≡ whole
     whole-end =
-        admitted-end image m session n output
-        (record { image-long = h .0 .image-long; in-ranges = h .0 .in-ranges; within = b }, h .1)
+        admitted-end asked m given (record { image-long = h .0 .image-long; in-ranges = h .0 .in-ranges; within = b }, h .1)
 
     -- the second run is not refused
     left-end : again here ≡ left
     left-end =
-        let w = ranOf session n₁ m image output .world in
-        admitted-end (w .image) (w .state .machine) (restAfter session m image output n₁) (n - w .state .cycles .0) (drop (w .state .sent .0) (w .output)) (
+        let w = here .world in
+        let s = w .state in
+        admitted-end (termsAfter (s .used .0) (s .cycles .0) asked) (s .machine) (lentAfter (s .sent .0) (w .lent)) (
           record {
-            image-long = image-length session n₁ (startWorld m image output) ∙ h .0 .image-long;
-            in-ranges = ranges-say _ (run-ranges session n₁ m image output (h .1) (say-ranges (m .chip .bus) (h .0 .in-ranges)));
+            image-long = image-length asked₁ (startWorld m given) ∙ h .0 .image-long;
+            in-ranges = ranges-say _ (run-ranges asked₁ m given (h .1) (say-ranges (m .chip .bus) (h .0 .in-ranges)));
             within = omega arith;
           },
-          after-sound session m image output n₁ (h .1),
+          after-sound session m given n₁ (h .1),
         )
 
-    module _ (stopped : ranOf session n₁ m image output .stop ≡ Limit) where
+    module _ (stopped : ranOf asked₁ m given .stop ≡ Limit) where
       joined-here : answerAt whole ≡ joined (answerAt here) (answerAt left)
       joined-here =
-          let w = ranOf session n₁ m image output .world in
-          let r = runs-raise session m image output n₁ (h .1) n l stopped in
+          let r = runs-raise session m given n₁ (h .1) n l stopped in
+          let q = r .1 in
           ap (λ (k : Stop). answerAt (endAt (toldStop k) (whole .world))) (r .0)
-          ∙ joins (left .reply) (here .reply) (whole .world) w (left .world) (r .1 .leaps) (r .1 .inside) (r .1 .same) (filled-part session n₁ m image output .2)
+          ∙ joins (left .reply) (here .reply) (whole .world) (here .world) (left .world) (q .leaps) (q .inside) (q .same) (filled-part asked₁ m given .2)
 
       leaps-here : let k = here .world .state .leaps .0 + left .world .state .leaps .0 in
           (whole .world .state .leaps .0 ≤ k) × (k ≤ whole .world .state .leaps .0 + 1)
       leaps-here =
-          let r = runs-raise session m image output n₁ (h .1) n l stopped .1 in
+          let r = runs-raise session m given n₁ (h .1) n l stopped .1 in
           let e = ap (λ (x : World). x .state .leaps .0) (r .same) in
           let low = r .apart .low in
           let most = apart-most (r .apart) in
@@ -116,24 +131,24 @@ module _ (image : List ℕ) (m : Machine) (session : List ℕ) (n₁ n : ℕ) (o
 
   -- the first run's answer, and the second's, which got what the first left
   abbrev pub firstAnswer : Answer
-  firstAnswer = answerOf image m session n₁ output
+  firstAnswer = answerOf asked₁ m given
 
   abbrev pub secondAnswer : Answer
   secondAnswer =
       let a = firstAnswer in
-      answerOf (a .image) (a .machine) (restOf session (a .used) (a .cycles)) (n - a .cycles) (drop (a .sent) (a .output))
+      answerOf (termsAfter (a .used) (a .cycles) asked) (a .machine) (lentAfter (a .sent) (a .lent))
 
   abbrev pub firstLeaps : ℕ
-  firstLeaps = leapsOf image m session n₁ output
+  firstLeaps = leapsOf asked₁ m given
 
   abbrev pub secondLeaps : ℕ
   secondLeaps =
       let a = firstAnswer in
-      leapsOf (a .image) (a .machine) (restOf session (a .used) (a .cycles)) (n - a .cycles) (drop (a .sent) (a .output))
+      leapsOf (termsAfter (a .used) (a .cycles) asked) (a .machine) (lentAfter (a .sent) (a .lent))
 
   module _ (e : firstAnswer .reply ≡ told 0 none) where
-    admitted : Admitted image m session n₁ output
-    admitted = reply-0 image m session n₁ output .0 e .0
+    admitted : Admitted asked₁ m given
+    admitted = reply-0 asked₁ m given .0 e .0
 
     -- the call `rest` gives the second run its session: it refuses nothing but a buffer that is too short, and one as long as the session
     -- never is
@@ -146,48 +161,62 @@ module _ (image : List ℕ) (m : Machine) (session : List ℕ) (n₁ n : ℕ) (o
 
     pub rest-given : (buffer : List ℕ) → Fits buffer (firstAnswer .used) (firstAnswer .cycles)
     rest-given buffer =
-        subst (λ (x : End). Fits buffer (x .world .state .used .0) (x .world .state .cycles .0)) (sym (admitted-end image m session n₁ output admitted)) (
-          after-short session m image output n₁ (admitted .1),
+        subst (λ (x : End). Fits buffer (x .world .state .used .0) (x .world .state .cycles .0)) (sym (admitted-end asked₁ m given admitted)) (
+          after-short session m given n₁ (admitted .1),
           (λ l.
+<<<<<<< HEAD
               let r = restAfter session m image output n₁ in
               let w = (admitted .1, used-within session m image output n₁ (admitted .1), l) in (
                 rest-written session _ _ buffer (length r) .1 (w, refl),
                 ap (take (length r)) (rest-left session _ _ buffer w) ∙ take-append-seam r (drop (length r) buffer),
+=======
+              let r = restAfter session m given n₁ in
+              let sound = admitted .1 in
+              let within = used-within session m given n₁ sound in (
+                rest-written session _ _ buffer (length r) .1 ((sound, within, l), refl),
+                ap (take (length r)) (rest-left session _ _ buffer (sound, within, l)) ∙ take-append-seam r (drop (length r) buffer),
+>>>>>>> composing
               )),
         )
 
   module _ (l : n₁ ≤ n) (b : n ≤ 1000000000) (e : firstAnswer .reply ≡ told 0 none) where
-    stopped : ranOf session n₁ m image output .stop ≡ Limit
-    stopped = limit-told (ranOf session n₁ m image output .stop) (ap (λ (x : End). x .reply) (sym (admitted-end image m session n₁ output (admitted e))) ∙ e)
+    first-end : endOf asked₁ m given ≡ here
+    first-end = admitted-end asked₁ m given (admitted e)
+
+    stopped : ranOf asked₁ m given .stop ≡ Limit
+    stopped = limit-told (ranOf asked₁ m given .stop) (ap (λ (x : End). x .reply) (sym first-end) ∙ e)
 
     -- the two answers, joined, are the one run's
-    pub compose : answerOf image m session n output ≡ joined firstAnswer secondAnswer
+    pub compose : answerOf asked m given ≡ joined firstAnswer secondAnswer
     compose =
-        subst (λ (x : End). answerOf image m session n output ≡ joined (answerAt x) (answerAt (again x))) (sym (admitted-end image m session n₁ output (admitted e)))
+        subst (λ (x : End). answerOf asked m given ≡ joined (answerAt x) (answerAt (again x))) (sym first-end)
         (ap answerAt (whole-end (admitted e) l b)
         ∙ joined-here (admitted e) l b stopped
         ∙ ap (λ (x : End). joined (answerAt here) (answerAt x)) (sym (left-end (admitted e) l b)))
 
     -- and so are their leaps, but that a wait across the cut may count twice
-    pub compose-leaps : let leaps = leapsOf image m session n output in
+    pub compose-leaps : let leaps = leapsOf asked m given in
         (leaps ≤ firstLeaps + secondLeaps) × (firstLeaps + secondLeaps ≤ leaps + 1)
     compose-leaps =
         subst
-        (λ (x : End). let k = x .world .state .leaps .0 + again x .world .state .leaps .0 in let leaps = leapsOf image m session n output in (leaps ≤ k) × (k ≤ leaps + 1))
-        (sym (admitted-end image m session n₁ output (admitted e)))
+        (λ (x : End).
+        let k = x .world .state .leaps .0 + again x .world .state .leaps .0 in
+        let leaps = leapsOf asked m given in
+        (leaps ≤ k) × (k ≤ leaps + 1))
+        (sym first-end)
         (let p = ap (λ (x : End). x .world .state .leaps .0) (whole-end (admitted e) l b) in
         let q = ap (λ (x : End). x .world .state .leaps .0) (left-end (admitted e) l b) in
         let r = leaps-here (admitted e) l b stopped in
         (omega (arith, p, q, r .0), omega (arith, p, q, r .1)))
 
     -- the same of what the calls return: a run's report, with the image and the output that it leaves
-    pub calls-compose : (r₁ r₂ r : Ran) (i₁ o₁ i₂ o₂ i o : List ℕ)
-        → Single image m session n₁ output r₁ i₁ o₁
-        → Single i₁ (r₁ .machine) (restOf session (r₁ .used .0) (r₁ .cycles .0)) (n - r₁ .cycles .0) (drop (r₁ .sent .0) o₁) r₂ i₂ o₂
-        → Single image m session n output r i o
-        → answered r i o ≡ joined (answered r₁ i₁ o₁) (answered r₂ i₂ o₂)
-    calls-compose r₁ r₂ r i₁ o₁ i₂ o₂ i o p q u =
+    pub calls-compose : (r₁ r₂ r : Ran) (l₁ l₂ l : Lent)
+        → Single asked₁ m given r₁ l₁
+        → Single (termsAfter (r₁ .used .0) (r₁ .cycles .0) asked) (r₁ .machine) (lentAfter (r₁ .sent .0) l₁) r₂ l₂
+        → Single asked m given r l
+        → answered r l ≡ joined (answered r₁ l₁) (answered r₂ l₂)
+    calls-compose r₁ r₂ r l₁ l₂ l p q u =
         subst
-        (λ (a : Answer). answered r₂ i₂ o₂ ≡ answerOf (a .image) (a .machine) (restOf session (a .used) (a .cycles)) (n - a .cycles) (drop (a .sent) (a .output))
-        → answered r i o ≡ joined a (answered r₂ i₂ o₂))
+        (λ (a : Answer). answered r₂ l₂ ≡ answerOf (termsAfter (a .used) (a .cycles) asked) (a .machine) (lentAfter (a .sent) (a .lent))
+        → answered r l ≡ joined a (answered r₂ l₂))
         (sym p) (λ v. u ∙ compose ∙ ap (joined firstAnswer) (sym v)) q

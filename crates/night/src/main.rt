@@ -22,7 +22,7 @@ enum Begun {
 }
 
 fn refuse(number: u8) {
-    bench_answer::refused(number).text(b"\n").print();
+    lines::refused(number).text(b"\n").print();
 }
 
 // 1,048,576 zeros, for a session.

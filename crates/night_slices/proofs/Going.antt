@@ -2,119 +2,90 @@
 use Prim.Native.Nat.{ℕ, _-_, _≤_, _<_, min}
 use native.Mathlib.Omega.{arith}
 use mathlib.Core.List.{List}
-use mathlib.Core.Option.{Option, none, some}
-use mathlib.Core.Path.{_≡_, refl, sym, ap, subst, _∙_}
-use mathlib.Core.Bool.{Bool, true, false, cond, _&&_, true≢false}
-use lib.Dec.{eqb, ltb, leb}
+use mathlib.Core.Option.{none}
+use mathlib.Core.Path.{_≡_, refl, sym, ap, _∙_}
+use mathlib.Core.Bool.{Bool, true, false, cond}
+use lib.Dec.{leb}
 use lib.ListN.{length, take, drop, length-take}
 use lib.Seq.{take-all}
 use borrow.Author.Tests.{le-ltb, lt-ltb, ltb-true, eqb-true, leb-true, leb-false}
-use Rattle.turns.specs.Turn.{Turn, more, done}
-use Rattle.turns.proofs.Laws.{loop-more, loop-done}
-use Rattle.session.specs.Session.{checkOf, numberOf}
-use Rattle.session.specs.declared.Checked.{Checked}
-use Rattle.session.specs.declared.Checked.the-variants.{Sound, Length, Kind, Value, Time}
-use Rattle.session.proofs.Laws.{Refusal}
+use Rattle.turns.specs.Turn.{more}
+use Rattle.turns.proofs.Laws.{on-more, loop-more, loop-done}
+use Rattle.laws.proofs.Bools.{both}
+use Rattle.laws.proofs.Conds.{picks, passes}
+use Rattle.session.specs.Session.{faultNumber}
+use Rattle.session.specs.declared.Fault.{Fault}
+use Rattle.session.specs.declared.Fault.the-variants.{Length, Kind, Value, Time}
+use Rattle.replies.specs.Replies.{Told, told, stops}
 use Rattle.machine.specs.declared.Machine.{Machine}
 use Rattle.boundary.specs.declared.Stop.{Stop}
 use Rattle.boundary.specs.declared.Stop.the-variants.{Limit, Undefined, Full}
-use Rattle.boundary.specs.Boundary.{stopNumber}
+use Rattle.boundary.specs.World.{Lent, withOutput, Terms, terms, stopNumber}
 use Rattle.boundary.specs.Start.{startWorld, ranOf}
-use Rattle.boundary.proofs.Picks.{picks, passes}
-use Rattle.cabinet.specs.Replies.{Told, told, toldCheck}
-use Rattle.cabinet.specs.Answers.{End, Answer, answerOf}
+use Rattle.boundary_theorems.proofs.Kept as kept
+use Rattle.cabinet.specs.Answers.{answerOf}
 use Rattle.cabinet.proofs.Ends.{end-cases}
-use Rattle.cabinet.proofs.Stops.{Shows, stop-shows}
-use Rattle.rest.specs.Rest.{hasFewer, restOf}
-use Rattle.rest.specs.Answers.{firstOf, restRefusal, answerBy, restAnswer}
-use Rattle.bench_answer.specs.Answering.{stops}
-use Rattle.night_slices.specs.Slices.{Standing, sliceCycles, Keeping, keeping, onRest, keepingOf, sliceOf, goesOn, sliceTurn, slicesOf, startOf, nightOf}
+use Rattle.rest.specs.Rest.{restOf}
+use Rattle.rest.specs.Answers.{restAnswer}
+use Rattle.rest.proofs.Exactly.{answer-cases}
+use Rattle.night_slices.specs.Slices.{Standing, sliceCycles, keeping, onKeep, keepingOf, sliceOf, goesOn, sliceTurn, slicesOf, nightAt, nightOf}
 
--- a refusal of a session has a number
-refused-number : {R : Type 0} (c : Checked) → Refusal c → numberOf c ≡ 0 → R
-refused-number Sound r e = absurd r
-refused-number (Length k) r e = absurd (let z : ⊥ = omega arith in z)
-refused-number (Kind k) r e = absurd (let z : ⊥ = omega arith in z)
-refused-number (Value k) r e = absurd (let z : ⊥ = omega arith in z)
-refused-number (Time k) r e = absurd (let z : ⊥ = omega arith in z)
-
-shown : (n : ℕ) (k : Stop) (a : Answer) → Shows n k a → stopNumber k ≡ 0 → n ≤ a .cycles
-shown n Limit a s e = s
-shown n Undefined a s e = absurd (let z : ⊥ = omega arith in z)
-shown n Full a s e = absurd (let z : ⊥ = omega arith in z)
+-- a refusal of a session has a number of 4 or more
+fault-number : (f : Fault) → 4 ≤ faultNumber f
+fault-number (Length k) = omega arith
+fault-number (Kind k) = omega arith
+fault-number (Value k) = omega arith
+fault-number (Time k) = omega arith
 
 -- a run that replies 0 has reached its limit
-limit-reached : (image : List ℕ) (m : Machine) (session : List ℕ) (n : ℕ) (output : List ℕ)
-    → answerOf image m session n output .reply .number ≡ 0 → n ≤ answerOf image m session n output .cycles
-limit-reached image m session n output =
-    end-cases image m session n output (λ (x : End). x .reply .number ≡ 0 → n ≤ x .world .state .cycles .0)
+reached : (k : Stop) {n cycles : ℕ} → kept.Reached k n cycles → stopNumber k ≡ 0 → n ≤ cycles
+reached Limit h e = h
+reached Undefined h e = absurd (let z : ⊥ = omega arith in z)
+reached Full h e = absurd (let z : ⊥ = omega arith in z)
+
+limit-reached : (asked : Terms) (m : Machine) (given : Lent) → let a = answerOf asked m given in a .reply .number ≡ 0 → asked .limit ≤ a .cycles
+limit-reached asked m given =
+    end-cases asked m given (λ x. x .reply .number ≡ 0 → asked .limit ≤ x .world .state .cycles .0)
     (λ l d. absurd (let z : ⊥ = omega arith in z))
     (λ l r d. absurd (let z : ⊥ = omega arith in z))
     (λ l r h d. absurd (let z : ⊥ = omega arith in z))
-    (λ p c f r d. refused-number c r d)
-    (λ p s d. shown n (ranOf session n m image output .stop) _ (stop-shows session n (startWorld m image output)) d)
+    (λ p f e d. absurd (let k = fault-number f in let z : ⊥ = omega arith in z))
+    (λ p s d. reached (ranOf asked m given .stop) (kept.limit-reached asked (startWorld m given)) d)
 
--- crate rest refuses with 4 or more
-abbrev Late : Option Told → Type 0
-Late (some t) = 4 ≤ t .number
-Late none = Unit {0}
-
-late-by : (k : Checked) (f g : Bool) → Late (firstOf (toldCheck k) (cond f (some (told 30 none)) (cond g (some (told 31 none)) none)))
-late-by Sound true g = omega arith
-late-by Sound false true = omega arith
-late-by Sound false false = tt
-late-by (Length k) f g = omega arith
-late-by (Kind k) f g = omega arith
-late-by (Value k) f g = omega arith
-late-by (Time k) f g = omega arith
-
-late : (s : List ℕ) (u c : ℕ) (b : List ℕ) → Late (restRefusal s u c b)
-unfolding restRefusal
-late s u c b = late-by (checkOf s) (hasFewer s u) (ltb (length b) (length (restOf s u c)))
-
--- so where a slice tells 0 its run replied 0
-zero-by : (t : Told) (s r : List ℕ) (x : Option Told) → Late x → onRest t s r (answerBy x r) .told .number ≡ 0 → t .number ≡ 0
-zero-by t s r (some u) l e = absurd (let z : ⊥ = omega (arith, l, e) in z)
-zero-by t s r none l e = e
-
+-- where a slice tells 0 its run replied 0: crate rest refuses with 4 or more
 kept-zero : (t : Told) (s : List ℕ) (u c : ℕ) → keepingOf t s u c .told .number ≡ 0 → t .number ≡ 0
-unfolding keepingOf restAnswer
+unfolding keepingOf
 kept-zero t s u c = by (stops (t .number))
   where
-    by : (b : Bool) → cond b (onRest t s (restOf s u c) (restAnswer s u c s)) (keeping t s) .told .number ≡ 0 → t .number ≡ 0
-    by true e = zero-by t s (restOf s u c) (restRefusal s u c s) (late s u c s) e
+    by : (b : Bool) → cond b (onKeep t s (restOf s u c) (restAnswer s u c s)) (keeping t s) .told .number ≡ 0 → t .number ≡ 0
+    by true =
+        answer-cases s u c s (λ a. onKeep t s (restOf s u c) a .told .number ≡ 0 → t .number ≡ 0)
+        (λ f e d. absurd (let k = fault-number f in let z : ⊥ = omega arith in z))
+        (λ e h d. absurd (let z : ⊥ = omega arith in z))
+        (λ e h l d. absurd (let z : ⊥ = omega arith in z))
+        (λ e h l d. d)
     by false e = e
 
-both : (a b : Bool) → (a && b) ≡ true → (a ≡ true) × (b ≡ true)
-both true b e = (refl, e)
-both false b e = absurd (true≢false (sym e))
-
 -- a slice that goes on has fewer cycles left
+less : (left cycles : ℕ) → min left 1000000000 ≤ cycles → 0 < left - cycles → left - cycles < left
+less left cycles l k = omega arith
+
 pub slice-falls : (s : Standing) → goesOn (sliceOf s) ≡ true → sliceOf s .left < s .left
 unfolding sliceOf
 slice-falls s g =
-    let n = sliceCycles (s .left) in
-    let room = drop (s .sent) (s .output) in
-    let a = answerOf (s .image) (s .machine) (s .session) n room in
+    let asked = terms (s .session) (sliceCycles (s .left)) in
+    let given = withOutput (s .lent) (drop (s .sent) (s .lent .output)) in
+    let a = answerOf asked (s .machine) given in
     let p = both _ _ g in
     let z = kept-zero (a .reply) (s .session) (a .used) (a .cycles) (eqb-true _ _ (p .0)) in
-    let l : n ≤ a .cycles = limit-reached (s .image) (s .machine) (s .session) n room z in
-    let k : 0 < s .left - a .cycles = ltb-true _ _ (p .1) in
-    less (s .left) (a .cycles) l k
-  where
-    less : (left cycles : ℕ) → min left 1000000000 ≤ cycles → 0 < left - cycles → left - cycles < left
-    less left cycles l k = omega arith
-
-abbrev OnMore : Standing → Turn Standing Standing → Type 0
-OnMore s (more x) = x .left < s .left
-OnMore s (done r) = Unit {0}
+    less (s .left) (a .cycles) (limit-reached asked (s .machine) given z) (ltb-true _ _ (p .1))
 
 turns-fall : (s t : Standing) → sliceTurn s ≡ more t → t .left < s .left
-turns-fall s t e = subst (OnMore s) e (by (goesOn (sliceOf s)) refl)
-  where
-    by : (b : Bool) → goesOn (sliceOf s) ≡ b → OnMore s (cond b (more (sliceOf s)) (done (sliceOf s)))
-    by true g = slice-falls s g
-    by false g = tt
+turns-fall s t e =
+    let k = on-more _ _ _ _ e in
+    let f = slice-falls s (k .0) in
+    let h = ap (λ (x : Standing). x .left) (k .1) in
+    omega arith
 
 pub slices-more : (s : Standing) → goesOn (sliceOf s) ≡ true → slicesOf s ≡ slicesOf (sliceOf s)
 unfolding slicesOf
@@ -125,7 +96,7 @@ unfolding slicesOf
 slices-done s g = loop-done sliceTurn _ _ turns-fall (passes _ _ g)
 
 -- as many bytes as there are, at most so many
-pub take-least : (k : ℕ) (l : List ℕ) → take (min k (length l)) l ≡ take k l
+take-least : (k : ℕ) (l : List ℕ) → take (min k (length l)) l ≡ take k l
 take-least k l = by (leb k (length l)) refl
   where
     by : (b : Bool) → leb k (length l) ≡ b → take (min k (length l)) l ≡ take k l
@@ -135,20 +106,23 @@ take-least k l = by (leb k (length l)) refl
         let z : min k (length l) ≡ length l = omega arith in
         ap (λ (j : ℕ). take j l) z ∙ take-all (length l) l (omega arith) ∙ sym (take-all k l (omega arith))
 
-module _ (image : List ℕ) (m : Machine) (session : List ℕ) (size n : ℕ) (output : List ℕ) (room : ℕ) {least : ℕ} (e : least ≡ min size (length session)) where
+module _ (session : List ℕ) (size n : ℕ) (m : Machine) (given : Lent) (room : ℕ) {least : ℕ} (e : least ≡ min size (length session)) where
   same : take least session ≡ take size session
   same = ap (λ (j : ℕ). take j session) e ∙ take-least size session
 
-  pub night-refused : room < least → startOf (told 31 none) image m (take least session) n output ≡ nightOf image m (take size session) n output room
+  abbrev night : Standing
+  night = nightOf (terms (take size session) n) m given room
+
+  pub night-refused : room < least → nightAt (told 31 none) (terms (take least session) n) m given ≡ night
   unfolding nightOf
   night-refused h =
       let l = length-take size session in
-      ap (λ (s : List ℕ). startOf (told 31 none) image m s n output) same
+      ap (λ (s : List ℕ). nightAt (told 31 none) (terms s n) m given) same
       ∙ sym (picks _ _ (lt-ltb room (length (take size session)) (omega arith)))
 
-  pub night-runs : least ≤ room → slicesOf (startOf (told 0 none) image m (take least session) n output) ≡ nightOf image m (take size session) n output room
+  pub night-runs : least ≤ room → slicesOf (nightAt (told 0 none) (terms (take least session) n) m given) ≡ night
   unfolding nightOf
   night-runs h =
       let l = length-take size session in
-      ap (λ (s : List ℕ). slicesOf (startOf (told 0 none) image m s n output)) same
+      ap (λ (s : List ℕ). slicesOf (nightAt (told 0 none) (terms s n) m given)) same
       ∙ sym (passes _ _ (le-ltb room (length (take size session)) (omega arith)))

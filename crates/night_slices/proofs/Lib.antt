@@ -1,4 +1,3 @@
 pub mod Keeping
 pub mod Going
 pub mod Sliced
-pub mod OneRun

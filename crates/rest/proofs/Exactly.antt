@@ -55,7 +55,7 @@ module _ (s : List ℕ) (used cycles : ℕ) (b : List ℕ) where
   answers e = ap (λ (t : Option Told). answerBy t rest) e
 
   -- each way that the call can go
-  answer-cases : (P : Answer → Type 0)
+  pub answer-cases : (P : Answer → Type 0)
       → ((f : Fault) → checkOf s ≡ Bad f → P (refuses (toldFault f)))
       → (checkOf s ≡ Sound → length s < placeOf s used → P (refuses (told 30 none)))
       → (checkOf s ≡ Sound → placeOf s used ≤ length s → length b < length rest → P (refuses (told 31 none)))

@@ -1,5 +1,5 @@
--- `nights::closing` meets its contract: each arm is a case of the definition's. Assumes nothing.
-use Rattle.night_slices.specs.Lines.{endText}
+-- `night_slices::closing` meets its contract: each arm is a case of the definition's. Assumes nothing.
+use Rattle.night_lines.specs.NightLines.{endText}
 use borrow.Author.Needs.{needs}
 use Rattle.night_slices.proofs.closing.Statement.{statement}
 use Rattle.night_slices.proofs.closing.Tie as tie
@@ -14,7 +14,7 @@ closing-spec =
     (λ c. search needs)  -- enum-told-2
     (λ c κs. search needs)  -- refused-requires-2
     (λ c. search needs)  -- enum-known-ended
-    (λ c κs. search needs)  -- report-requires
+    (λ c κs. search needs)  -- end-line-requires
     (λ c. rw (c .before .enum-told .given .1) (c .refused .ensures))  -- returns
     (λ c. rw (c .before .enum-told2 .given .1) (c .refused2 .ensures))  -- returns-2
-    (λ c. rw (c .before .before .ended .given .1) (c .report .ensures)))  -- returns-3
+    (λ c. rw (c .before .before .ended .given .1) (c .end-line .ensures)))  -- returns-3

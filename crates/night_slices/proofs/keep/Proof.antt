@@ -1,4 +1,4 @@
--- `nights::keep` meets its contract: the session, or its rest where crate rest wrote one. Assumes nothing.
+-- `night_slices::keep` meets its contract: the session, or its rest where crate rest wrote one. Assumes nothing.
 use native.Mathlib.Omega.{arith}
 use mathlib.Core.Path.{_≡_, sym, ap, _∙_}
 use lib.ListN.{length, take, length-take}

@@ -1,4 +1,4 @@
--- `nights::run_night` meets its contract: the slices, one after another. Assumes nothing.
+-- `night_slices::run_night` meets its contract: the slices, one after another. Assumes nothing.
 use Prim.Native.Nat.{ℕ, _≤_, _<_}
 use native.Mathlib.Omega.{arith}
 use mathlib.Core.Bool.{Bool, true, false}

@@ -1,4 +1,4 @@
--- `nights::slice` meets its contract: the run, the rest and the sums. Assumes nothing.
+-- `night_slices::slice` meets its contract: the run, the rest and the sums. Assumes nothing.
 use Prim.Native.Nat.{ℕ, _-_}
 use mathlib.Core.Path.{sym}
 use lib.ListN.{length}

@@ -1,4 +1,4 @@
--- `nights::stops_with` meets its contract: each arm is a case of the definition's. Assumes nothing.
+-- `night_slices::stops_with` meets its contract: each arm is a case of the definition's. Assumes nothing.
 use borrow.Author.Needs.{needs}
 use Rattle.night_slices.proofs.stops_with.Statement.{statement}
 use Rattle.night_slices.proofs.stops_with.Tie as tie

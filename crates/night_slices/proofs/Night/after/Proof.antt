@@ -1,4 +1,4 @@
--- `nights::Night::after` meets its contract: sum by sum. Assumes nothing.
+-- `night_slices::Night::after` meets its contract: sum by sum. Assumes nothing.
 use borrow.Author.Needs.{needs}
 use Rattle.night_slices.proofs.Night.after.Statement.{statement}
 use Rattle.night_slices.proofs.Night.after.Tie as tie

@@ -1,4 +1,4 @@
--- `nights::Night::goes_on` meets its contract: the two tests. Assumes nothing.
+-- `night_slices::Night::goes_on` meets its contract: the two tests. Assumes nothing.
 use borrow.Author.Needs.{needs}
 use Rattle.night_slices.proofs.Night.goes_on.Statement.{statement}
 use Rattle.night_slices.proofs.Night.goes_on.Tie as tie

@@ -1,6 +1,6 @@
--- `nights::Night::line` meets its contract: what the night tells, and a newline. Assumes nothing.
+-- `night_slices::Night::line` meets its contract: what the night tells, and a newline. Assumes nothing.
 use Rattle.printing.proofs.Laws.{puts-then}
-use Rattle.night_slices.specs.Lines.{nightText}
+use Rattle.night_slices.specs.Slices.{nightText}
 use borrow.Author.Needs.{needs}
 use Rattle.night_slices.proofs.Night.line.Statement.{statement}
 use Rattle.night_slices.proofs.Night.line.Tie as tie

@@ -10,63 +10,65 @@ use lib.Dec.{eqb, ltb, leb}
 use lib.ListN.{length, take, drop, length-append}
 use lib.Seq.{length-take-le, take-append-add, drop-append-add}
 use borrow.Author.Tests.{le-ltb, ltb-false, leb-true, leb-false}
-use Rattle.turns.specs.Turn.{Turn, more, done}
+use Rattle.turns.specs.Turn.{Turn, more, done, Then}
+use Rattle.laws.proofs.Conds.{picks, passes}
 use Rattle.session.specs.Session.{checkOf}
 use Rattle.session.specs.declared.Checked.the-variants.{Sound}
+use Rattle.replies.specs.Replies.{Told, told, stops}
 use Rattle.machine.specs.declared.Machine.{Machine}
 use Rattle.machine.specs.Machine.{Ranges, rangesOf}
 use Rattle.machine.proofs.Ranges.{ranges-say, say-ranges}
 use Rattle.boundary.specs.declared.Stop.{Stop}
 use Rattle.boundary.specs.declared.Stop.the-variants.{Limit, Undefined, Full}
-use Rattle.boundary.specs.Boundary.{World, Ended, worldOf, recordsOf, sendOf, boundaryOf, runOf, stopNumber}
+use Rattle.boundary.specs.World.{Lent, withOutput, Terms, terms, World, Ended, stopNumber}
+use Rattle.boundary.specs.Boundary.{fedWorld, sendOf, boundaryOf, runOf}
 use Rattle.boundary.specs.Start.{startWorld, ranOf}
-use Rattle.boundary.proofs.Picks.{picks, passes}
 use Rattle.boundary.proofs.Cases.{at-limit, below-limit}
-use Rattle.boundary.proofs.Runs.{Then, run-more, run-done, run-keeps}
-use Rattle.boundary.proofs.Kept.{image-length}
-use Rattle.boundary.proofs.Output.{filled-part}
-use Rattle.boundary.proofs.InRanges.{run-ranges}
-use Rattle.cabinet.specs.Replies.{Told, told, toldStop}
-use Rattle.cabinet.specs.Answers.{End, endAt, endOf, Answer, answerAt}
-use Rattle.cabinet.proofs.Exactly.{admitted-end}
+use Rattle.boundary.proofs.Runs.{run-more, run-done, run-keeps}
+use Rattle.boundary_theorems.proofs.Kept.{image-length}
+use Rattle.boundary_theorems.proofs.Output.{filled-part}
+use Rattle.boundary_theorems.proofs.InRanges.{run-ranges}
+use Rattle.cabinet.specs.Answers.{toldStop, End, endAt, endOf, Answer, answerAt}
+use Rattle.cabinet_theorems.proofs.Exactly.{admitted-end}
 use Rattle.rest.specs.Rest.{placeOf, restOf}
 use Rattle.rest.proofs.Exactly.{rest-written}
-use Rattle.rest.proofs.Raised.{raised}
-use Rattle.rest.proofs.Second.{pastOf, used-within, after-sound, after-short, runs-raise}
-use Rattle.bench_answer.specs.Answering.{stops}
-use Rattle.night_slices.specs.Slices.{sliceCycles, Standing, together, Keeping, keeping, onRest, keepingOf, afterOf, sliceOf, goesOn, slicesOf, startOf, nightOf}
+use Rattle.composing.specs.Joined.{lentAfter, termsAfter}
+use Rattle.composing.proofs.Raised.{raised}
+use Rattle.composing.proofs.Second.{pastOf, used-within, after-sound, after-short, runs-raise}
+use Rattle.night_slices.specs.Slices.{sliceCycles, Standing, together, Keeping, keeping, onKeep, keepingOf}
+use Rattle.night_slices.specs.Slices.{afterOf, sliceOf, goesOn, slicesOf, nightAt, nightOf}
 use Rattle.night_slices.proofs.Going.{slice-falls, slices-more, slices-done}
 
 -- a boundary uses its limit for the test of it and for no more: a run that was not stopped by its limit, or that was stopped where a limit
 -- no lower is reached too, is the run of that limit
 module _ (session : List ℕ) (n₁ n : ℕ) (l : n₁ ≤ n) (w₀ : World) where
   abbrev Passes : World → Type 0
-  Passes w = runOf session n w₀ ≡ runOf session n w
+  Passes w = runOf (terms session n) w₀ ≡ runOf (terms session n) w
 
   abbrev Whole : Ended → Type 0
-  Whole e = (e .stop ≡ Limit → n ≤ e .world .state .cycles .0) → runOf session n w₀ ≡ e
+  Whole e = (e .stop ≡ Limit → n ≤ e .world .state .cycles .0) → runOf (terms session n) w₀ ≡ e
 
-  turn-whole : (w : World) → Passes w → Then Passes Whole (boundaryOf session n₁ w)
+  turn-whole : (w : World) → Passes w → Then Passes Whole (boundaryOf (terms session n₁) w)
   turn-whole w p = by (leb n₁ (w .state .cycles .0)) refl
     where
       here : World
-      here = worldOf (recordsOf session (w .image) (w .state)) (w .image) (w .output)
+      here = fedWorld session w
 
-      on : (t : Turn World Ended) → boundaryOf session n w ≡ t → Then Passes Whole t
-      on (more v) e = p ∙ run-more session n w e
-      on (done x) e = λ _. p ∙ run-done session n w e
+      on : (t : Turn World Ended) → boundaryOf (terms session n) w ≡ t → Then Passes Whole t
+      on (more v) e = p ∙ run-more (terms session n) w e
+      on (done x) e = λ _. p ∙ run-done (terms session n) w e
 
-      by : (b : Bool) → leb n₁ (w .state .cycles .0) ≡ b → Then Passes Whole (boundaryOf session n₁ w)
+      by : (b : Bool) → leb n₁ (w .state .cycles .0) ≡ b → Then Passes Whole (boundaryOf (terms session n₁) w)
       by true e =
-          subst (Then Passes Whole) (sym (at-limit (w .state) (w .image) (w .output) session n₁ (leb-true _ _ e)))
-          (λ q. p ∙ run-done session n w (at-limit (w .state) (w .image) (w .output) session n (q refl)))
+          subst (Then Passes Whole) (sym (at-limit (w .state) (w .lent) (terms session n₁) (leb-true _ _ e)))
+          (λ q. p ∙ run-done (terms session n) w (at-limit (w .state) (w .lent) (terms session n) (q refl)))
       by false e =
           let h = leb-false n₁ (w .state .cycles .0) e in
-          subst (Then Passes Whole) (sym (below-limit (w .state) (w .image) (w .output) session n₁ h))
-          (on (sendOf here) (below-limit (w .state) (w .image) (w .output) session n (omega arith)))
+          subst (Then Passes Whole) (sym (below-limit (w .state) (w .lent) (terms session n₁) h))
+          (on (sendOf here) (below-limit (w .state) (w .lent) (terms session n) (omega arith)))
 
-  run-whole : Whole (runOf session n₁ w₀)
-  run-whole = run-keeps session n₁ Passes Whole turn-whole w₀ refl
+  run-whole : Whole (runOf (terms session n₁) w₀)
+  run-whole = run-keeps (terms session n₁) Passes Whole turn-whole w₀ refl
 
 -- sums that go round, and lists that were put together
 together-twice : (a b c : ℕ) → together a (b + c) ≡ together (together a b) c
@@ -106,8 +108,7 @@ shown s =
       entries = s .entries;
       used = s .used;
       sent = s .sent;
-      image = s .image;
-      output = s .output;
+      lent = s .lent;
     }
 
 abbrev summed : Standing → Answer → Answer
@@ -120,8 +121,7 @@ summed s a =
       entries = together (s .entries) (a .entries);
       used = together (s .used) (a .used);
       sent = s .sent + a .sent;
-      image = a .image;
-      output = take (s .sent) (s .output) ++ a .output;
+      lent = withOutput (a .lent) (take (s .sent) (s .lent .output) ++ a .lent .output);
     }
 
 -- what a run that was not refused answers
@@ -130,7 +130,7 @@ ended e = endAt (toldStop (e .stop)) (e .world)
 
 -- the run of n from where a night stands, and the night after a slice that ended so
 abbrev runFrom : Standing → ℕ → Ended
-runFrom s n = ranOf (s .session) n (s .machine) (s .image) (drop (s .sent) (s .output))
+runFrom s n = ranOf (terms (s .session) n) (s .machine) (lentAfter (s .sent) (s .lent))
 
 abbrev keptAfter : Standing → World → Keeping → Standing
 keptAfter s w k =
@@ -138,9 +138,8 @@ keptAfter s w k =
     record {
       told = k .told;
       machine = x .machine;
-      image = w .image;
+      lent = withOutput (w .lent) (take (s .sent) (s .lent .output) ++ w .lent .output);
       session = k .session;
-      output = take (s .sent) (s .output) ++ w .output;
       left = s .left - x .cycles .0;
       slices = together (s .slices) 1;
       cycles = together (s .cycles) (x .cycles .0);
@@ -168,7 +167,8 @@ keeps-rest : (k : Stop) (session : List ℕ) (used cycles : ℕ) → checkOf ses
 unfolding keepingOf
 keeps-rest k session used cycles h p l =
     picks _ _ (stop-stops k)
-    ∙ ap (onRest (toldStop k) session (restOf session used cycles)) (rest-written session used cycles session h p l .0)
+    ∙ ap (onKeep (toldStop k) session (restOf session used cycles))
+    (rest-written session used cycles session (length (restOf session used cycles)) .1 ((h, p, l), refl))
 
 -- slices that do not go on from a limit have no cycles left, and those that go on were stopped by their limit
 reached : (k : Stop) (left cycles : ℕ) → (eqb (stopNumber k) 0 && ltb 0 (left - cycles)) ≡ false → k ≡ Limit → left ≤ cycles
@@ -183,18 +183,20 @@ by-limit Undefined b e = absurd (let z : _≡_ {A = ℕ} 0 1 = cc in let w : ⊥
 by-limit Full b e = absurd (let z : _≡_ {A = ℕ} 0 1 = cc in let w : ⊥ = omega arith in w)
 
 -- a run's answer after a slice's is the answer of both after the night before
-joins : (s : Standing) (e : Ended) (t : Told) (v : World) (leaps : ℕ) (inside : Bool) → s .sent ≤ length (s .output)
-    → length (take (e .world .state .sent .0) (e .world .output)) ≡ e .world .state .sent .0
+joins : (s : Standing) (e : Ended) (t : Told) (v : World) (leaps : ℕ) (inside : Bool) → s .sent ≤ length (s .lent .output)
+    → length (take (e .world .state .sent .0) (e .world .lent .output)) ≡ e .world .state .sent .0
     → summed s (answerAt (endAt t (raised (pastOf (e .world)) v leaps inside))) ≡ summed (next s e) (answerAt (endAt t v))
 joins s e t v leaps inside h l =
     let x = e .world .state in
     let y = v .state in
-    let front = take (s .sent) (s .output) in
-    let sums : s .sent + (length (take (x .sent .0) (e .world .output)) + y .sent .0) ≡ s .sent + x .sent .0 + y .sent .0 =
+    let front = take (s .sent) (s .lent .output) in
+    let new = e .world .lent .output in
+    let last = v .lent .output in
+    let sums : s .sent + (length (take (x .sent .0) new) + y .sent .0) ≡ s .sent + x .sent .0 + y .sent .0 =
     ap (λ (j : ℕ). s .sent + (j + y .sent .0)) l ∙ sym (add-assoc (s .sent) (x .sent .0) (y .sent .0)) in
-    let outputs : front ++ (take (x .sent .0) (e .world .output) ++ v .output) ≡ take (s .sent + x .sent .0) (front ++ e .world .output) ++ v .output =
-    sym (append-assoc front (take (x .sent .0) (e .world .output)) (v .output))
-    ∙ ap (λ (o : List ℕ). o ++ v .output) (sym (seam-take (s .sent) (x .sent .0) (s .output) (e .world .output) h)) in
+    let outputs : front ++ (take (x .sent .0) new ++ last) ≡ take (s .sent + x .sent .0) (front ++ new) ++ last =
+    sym (append-assoc front (take (x .sent .0) new) last)
+    ∙ ap (λ (o : List ℕ). o ++ last) (sym (seam-take (s .sent) (x .sent .0) (s .lent .output) new h)) in
     λ k. record {
       reply = t;
       machine = y .machine;
@@ -203,30 +205,32 @@ joins s e t v leaps inside h l =
       entries = together-twice (s .entries) (x .entries .0) (y .entries .0) k;
       used = together-twice (s .used) (x .used .0) (y .used .0) k;
       sent = sums k;
-      image = v .image;
-      output = outputs k;
+      lent = withOutput (v .lent) (outputs k);
     }
 
 -- where no slice is refused
 record Good (s : Standing) : Type 0 where
-  image-long : length (s .image) ≡ 65536
+  image-long : length (s .lent .image) ≡ 65536
   in-ranges : rangesOf (s .machine) ≡ true
   sound : checkOf (s .session) ≡ Sound
-  fits : s .sent ≤ length (s .output)
+  fits : s .sent ≤ length (s .lent .output)
 
 module _ (s : Standing) (g : Good s) where
   abbrev n₁ : ℕ
   n₁ = sliceCycles (s .left)
 
-  abbrev room : List ℕ
-  room = drop (s .sent) (s .output)
+  abbrev asked : Terms
+  asked = terms (s .session) n₁
+
+  abbrev given : Lent
+  given = lentAfter (s .sent) (s .lent)
 
   abbrev first : Ended
   first = runFrom s n₁
 
-  slice-ends : endOf (s .image) (s .machine) (s .session) n₁ room ≡ ended first
+  slice-ends : endOf asked (s .machine) given ≡ ended first
   slice-ends =
-      admitted-end (s .image) (s .machine) (s .session) n₁ room (
+      admitted-end asked (s .machine) given (
         record { image-long = g .image-long; in-ranges = ranges-say (s .machine .chip .bus) (g .in-ranges); within = slice-most (s .left) },
         g .sound,
       )
@@ -237,24 +241,25 @@ module _ (s : Standing) (g : Good s) where
       ap (λ (x : End). afterOf s (answerAt x) (x .world .state .leaps .0)) slice-ends
       ∙ ap (keptAfter s (first .world))
       (keeps-rest (first .stop) (s .session) _ _ (g .sound)
-      (used-within (s .session) (s .machine) (s .image) room n₁ (g .sound))
-      (after-short (s .session) (s .machine) (s .image) room n₁ (g .sound)))
+      (used-within (s .session) (s .machine) given n₁ (g .sound))
+      (after-short (s .session) (s .machine) given n₁ (g .sound)))
 
   next-good : Good (next s first)
   next-good =
-      let f = filled-part (s .session) n₁ (s .machine) (s .image) room in
+      let f = filled-part asked (s .machine) given in
       let x = first .world in
       record {
-        image-long = image-length (s .session) n₁ (startWorld (s .machine) (s .image) room) ∙ g .image-long;
-        in-ranges = run-ranges (s .session) n₁ (s .machine) (s .image) room (g .sound) (g .in-ranges);
-        sound = after-sound (s .session) (s .machine) (s .image) room n₁ (g .sound);
-        fits = seam-fits (s .sent) (x .state .sent .0) (s .output) (x .output) (g .fits) (subst (λ (k : ℕ). x .state .sent .0 ≤ k) (sym (f .1)) (f .0));
+        image-long = image-length asked (startWorld (s .machine) given) ∙ g .image-long;
+        in-ranges = run-ranges asked (s .machine) given (g .sound) (g .in-ranges);
+        sound = after-sound (s .session) (s .machine) given n₁ (g .sound);
+        fits = seam-fits (s .sent) (x .state .sent .0) (s .lent .output) (x .lent .output) (g .fits)
+            (subst (λ (k : ℕ). x .state .sent .0 ≤ k) (sym (f .1)) (f .0));
       }
 
   -- the last slice is the whole run
   last-whole : goesOn (next s first) ≡ false → runFrom s (s .left) ≡ first
   last-whole f =
-      run-whole (s .session) n₁ (s .left) (slice-least (s .left)) (startWorld (s .machine) (s .image) room)
+      run-whole (s .session) n₁ (s .left) (slice-least (s .left)) (startWorld (s .machine) given)
       (reached (first .stop) (s .left) (first .world .state .cycles .0) f)
 
   -- and after one that goes on, what follows it is the rest of the run
@@ -263,14 +268,14 @@ module _ (s : Standing) (g : Good s) where
   goes-whole f =
       let w = first .world in
       let x = w .state in
-      let rest = restOf (s .session) (x .used .0) (x .cycles .0) in
-      let v = ranOf rest (s .left - x .cycles .0) (x .machine) (w .image) (drop (x .sent .0) (w .output)) in
-      let r = runs-raise (s .session) (s .machine) (s .image) room n₁ (g .sound) (s .left) (slice-least (s .left)) (by-limit (first .stop) _ f) in
+      let again = termsAfter (x .used .0) (x .cycles .0) (terms (s .session) (s .left)) in
+      let v = ranOf again (x .machine) (lentAfter (x .sent .0) (w .lent)) in
+      let r = runs-raise (s .session) (s .machine) given n₁ (g .sound) (s .left) (slice-least (s .left)) (by-limit (first .stop) _ f) in
       ap (λ (k : Stop). summed s (answerAt (endAt (toldStop k) (runFrom s (s .left) .world)))) (r .0)
       ∙ ap (λ (z : World). summed s (answerAt (endAt (toldStop (v .stop)) z))) (r .1 .same)
-      ∙ joins s first (toldStop (v .stop)) (v .world) (r .1 .leaps) (r .1 .inside) (g .fits) (filled-part (s .session) n₁ (s .machine) (s .image) room .2)
-      ∙ ap (λ (o : List ℕ). summed (next s first) (answerAt (ended (ranOf rest (s .left - x .cycles .0) (x .machine) (w .image) o))))
-      (sym (seam-drop (s .sent) (x .sent .0) (s .output) (w .output) (g .fits)))
+      ∙ joins s first (toldStop (v .stop)) (v .world) (r .1 .leaps) (r .1 .inside) (g .fits) (filled-part asked (s .machine) given .2)
+      ∙ ap (λ (o : List ℕ). summed (next s first) (answerAt (ended (ranOf again (x .machine) (withOutput (w .lent) o)))))
+      (sym (seam-drop (s .sent) (x .sent .0) (s .lent .output) (w .lent .output) (g .fits)))
 
 -- from any standing on, the slices are the one run of the cycles that are left
 abbrev OneRun : Standing → Type 0
@@ -299,27 +304,25 @@ slices-run (suc k) s g l = by (λ t. slices-run k t) (goesOn (sliceOf s)) refl
 pub record EndsAs (s : Standing) (e : Ended) : Type 0 where
   pub told : s .told ≡ toldStop (e .stop)
   pub machine : s .machine ≡ e .world .state .machine
-  pub image : s .image ≡ e .world .image
-  pub output : s .output ≡ e .world .output
+  pub lent : s .lent ≡ e .world .lent
   pub sent : s .sent ≡ e .world .state .sent .0
   pub cycles : s .cycles ≡ e .world .state .cycles .0 % 2 ^ 64
   pub instructions : s .instructions ≡ e .world .state .instructions .0 % 2 ^ 64
   pub entries : s .entries ≡ e .world .state .entries .0 % 2 ^ 64
   pub used : s .used ≡ e .world .state .used .0 % 2 ^ 64
 
-module _ (image : List ℕ) (m : Machine) (session : List ℕ) (n : ℕ) (output : List ℕ)
-    (long : length image ≡ 65536) (ranges : Ranges (m .chip .bus)) (sound : checkOf session ≡ Sound) where
+module _ (asked : Terms) (m : Machine) (given : Lent)
+    (long : length (given .image) ≡ 65536) (ranges : Ranges (m .chip .bus)) (sound : checkOf (asked .session) ≡ Sound) where
   -- the slices of N, for any N, end as the boundaries until one stops them, with the limit N, do
-  pub slices-one-run : EndsAs (slicesOf (startOf (told 0 none) image m session n output)) (ranOf session n m image output)
+  pub slices-one-run : EndsAs (slicesOf (nightAt (told 0 none) asked m given)) (ranOf asked m given)
   slices-one-run =
-      let s = startOf (told 0 none) image m session n output in
+      let s = nightAt (told 0 none) asked m given in
       let good : Good s = record { image-long = long; in-ranges = say-ranges (m .chip .bus) ranges; sound = sound; fits = omega arith } in
-      let p = slices-run (suc n) s good (omega arith) in
+      let p = slices-run (suc (asked .limit)) s good (omega arith) in
       record {
         told = ap (λ (a : Answer). a .reply) p;
         machine = ap (λ (a : Answer). a .machine) p;
-        image = ap (λ (a : Answer). a .image) p;
-        output = ap (λ (a : Answer). a .output) p;
+        lent = ap (λ (a : Answer). a .lent) p;
         sent = ap (λ (a : Answer). a .sent) p ∙ zero-add _;
         cycles = ap (λ (a : Answer). a .cycles) p ∙ ap (λ (k : ℕ). k % 2 ^ 64) (zero-add _);
         instructions = ap (λ (a : Answer). a .instructions) p ∙ ap (λ (k : ℕ). k % 2 ^ 64) (zero-add _);
@@ -328,7 +331,7 @@ module _ (image : List ℕ) (m : Machine) (session : List ℕ) (n : ℕ) (output
       }
 
   -- so does the night, where there is room for the rest of the session
-  pub night-one-run : (room : ℕ) → length session ≤ room → EndsAs (nightOf image m session n output room) (ranOf session n m image output)
+  pub night-one-run : (room : ℕ) → length (asked .session) ≤ room → EndsAs (nightOf asked m given room) (ranOf asked m given)
   unfolding nightOf
   night-one-run room l =
-      subst (λ (s : Standing). EndsAs s (ranOf session n m image output)) (sym (passes _ _ (le-ltb room (length session) l))) slices-one-run
+      subst (λ (s : Standing). EndsAs s (ranOf asked m given)) (sym (passes _ _ (le-ltb room (length (asked .session)) l))) slices-one-run

@@ -1,0 +1,1 @@
+// Theorems alone: a night's slices are one run.
