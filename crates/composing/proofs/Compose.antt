@@ -16,17 +16,9 @@ use Rattle.boundary.specs.declared.Stop.the-variants.{Limit, Undefined, Full}
 use Rattle.boundary.specs.World.{Lent, withOutput, Terms, terms, World}
 use Rattle.boundary.specs.Boundary.{runOf}
 use Rattle.boundary.specs.Start.{startWorld, ranOf}
-<<<<<<< HEAD
-use Rattle.boundary.proofs.Kept.{image-length}
-use Rattle.boundary.proofs.Output.{filled-part}
-use Rattle.boundary.proofs.InRanges.{run-ranges}
-use Rattle.replies.specs.Replies.{Told, told}
-use Rattle.cabinet.specs.Replies.{toldStop}
-=======
 use Rattle.boundary_theorems.proofs.Kept.{image-length}
 use Rattle.boundary_theorems.proofs.Output.{filled-part}
 use Rattle.boundary_theorems.proofs.InRanges.{run-ranges}
->>>>>>> composing
 use Rattle.cabinet.specs.declared.Ran.{Ran}
 use Rattle.cabinet.specs.Answers.{toldStop, End, endAt, endOf, Answer, answerAt, answered, answerOf, leapsOf}
 use Rattle.cabinet_theorems.proofs.Exactly.{Admitted, admitted-end, reply-0}
@@ -34,10 +26,7 @@ use Rattle.cabinet_theorems.proofs.Settled.{Single}
 use Rattle.rest.specs.Rest.{restOf}
 use Rattle.rest.specs.Answers.{wrote, restAnswer, restBuffer}
 use Rattle.rest.proofs.Exactly.{rest-written, rest-left}
-<<<<<<< HEAD
-=======
 use Rattle.composing.specs.Joined.{termsAfter, lentAfter, joined}
->>>>>>> composing
 use Rattle.composing.proofs.Raised.{raised, apart-most}
 use Rattle.composing.proofs.Second.{pastOf, secondOf, restAfter, used-within, after-sound, after-short, runs-raise}
 
@@ -164,18 +153,11 @@ module _ (session : List ℕ) (n₁ n : ℕ) (m : Machine) (given : Lent) where
         subst (λ (x : End). Fits buffer (x .world .state .used .0) (x .world .state .cycles .0)) (sym (admitted-end asked₁ m given admitted)) (
           after-short session m given n₁ (admitted .1),
           (λ l.
-<<<<<<< HEAD
-              let r = restAfter session m image output n₁ in
-              let w = (admitted .1, used-within session m image output n₁ (admitted .1), l) in (
-                rest-written session _ _ buffer (length r) .1 (w, refl),
-                ap (take (length r)) (rest-left session _ _ buffer w) ∙ take-append-seam r (drop (length r) buffer),
-=======
               let r = restAfter session m given n₁ in
               let sound = admitted .1 in
               let within = used-within session m given n₁ sound in (
                 rest-written session _ _ buffer (length r) .1 ((sound, within, l), refl),
                 ap (take (length r)) (rest-left session _ _ buffer (sound, within, l)) ∙ take-append-seam r (drop (length r) buffer),
->>>>>>> composing
               )),
         )
 

@@ -10,16 +10,11 @@ use lib.Dec.{leb}
 use lib.ListN.{length, length-append}
 use borrow.Author.Tests.{le-leb, lt-leb, leb-true, leb-false}
 use Rattle.turns.specs.Turn.{Turn, more, done}
-<<<<<<< HEAD
-use Rattle.session.specs.Session.{dueAt}
-use Rattle.session.proofs.Laws.{next-after, due-there}
-=======
 use Rattle.turns.specs.Beside.{Both}
 use Rattle.turns.proofs.Beside.{loop-beside}
 use Rattle.laws.proofs.Lists.{set-append-add}
 use Rattle.laws.proofs.Orders.{leb-shifted}
 use Rattle.bus.specs.Access.{Memories}
->>>>>>> composing
 use Rattle.bus.specs.Units.{byteSent}
 use Rattle.registers.specs.Cpu.{idles}
 use Rattle.machine.specs.declared.Machine.{Machine}
@@ -33,19 +28,11 @@ use Rattle.machine.specs.Interrupts.{pendingOf}
 use Rattle.machine.specs.Events.{appliedOf, onBus}
 use Rattle.machine.specs.Steps.{Stepped, enteredOf, lookOf, stepOf}
 use Rattle.boundary.specs.declared.State.{State}
-<<<<<<< HEAD
-use Rattle.boundary.specs.Boundary.{World, Ended, worldOf, movedOf, takenOf, recordsOf, sendsOf, sentState, sentWorld, enteredWorld, waitedState, onPending, actOf, sendOf, boundaryOf, runOf}
-use Rattle.boundary.proofs.Feeding.{records-more, records-done}
-use Rattle.boundary.proofs.Runs.{Then, run-more, run-done, run-keeps}
-use Rattle.laws.proofs.Lists.{set-append-add}
-use Rattle.laws.proofs.Orders.{leb-shifted}
-=======
 use Rattle.boundary.specs.World.{Lent, memoriesIn, withMemories, withOutput, terms, World, Ended, worldOf, grown, grownTo}
 use Rattle.boundary.specs.Boundary.{recordTaken, due, recordTurn, recordsOf, fedWorld, sendsOf, sentState, sentWorld, enteredWorld}
 use Rattle.boundary.specs.Boundary.{waitedState, executedOf, onPending, actOf, sendOf, boundaryOf, runOf}
 use Rattle.boundary.proofs.Feeding.{records-fall}
 use Rattle.boundary.proofs.Runs.{run-falls}
->>>>>>> composing
 use Rattle.rest.proofs.Matched.{Alike, Matched, event-there, next-there, due-shifted, due-goes}
 
 -- what a first run has done: where the first unused record stands, its counts, and the filled part of its output
