@@ -32,8 +32,9 @@ line() {
 words() { printf '%s\n' "$@"; }
 
 run() {
-    "$@"
-    echo $? >"$launched/status"
+    ended=0
+    "$@" || ended=$?
+    echo "$ended" >"$launched/status"
 }
 
 launch() {

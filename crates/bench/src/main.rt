@@ -3,5 +3,5 @@
 fn main() {
     let mut input = [0u8; 16385];
     let n = io::read_full(0, &mut input);
-    answering::answer(&input[..n]).print();
+    bench_answer::answer(&input[..n]).print();
 }

@@ -22,7 +22,7 @@ fn show(cases: &[u8], at: usize) -> usize
         return cases.len();
     }
     let to = from + size;
-    answering::answer(&cases[from..to]).print();
+    bench_answer::answer(&cases[from..to]).print();
     to
 }
 

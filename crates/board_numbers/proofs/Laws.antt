@@ -4,8 +4,8 @@ use mathlib.Core.List.{List, [], _∷_, _++_}
 use mathlib.Core.Path.{_≡_, refl}
 use lib.ListN.{getD}
 use Rattle.opcodes.specs.declared.Operation.{Operation}
-use Rattle.opcodes.specs.declared.Operation.the-variants.{Internal, Dyadic, Monadic, Tst, Sta, Wide, WideStore, Psh, Pul, Pshx, Pulx,
-    Branch, Jmp, Jsr, Bsr, Rts, Rti, Swi, Wai}
+use Rattle.opcodes.specs.declared.Operation.the-variants.{Internal, Dyadic, Monadic, Tst, Sta, Wide, WideStore, Psh, Pul, Pshx}
+use Rattle.opcodes.specs.declared.Operation.the-variants.{Pulx, Branch, Jmp, Jsr, Bsr, Rts, Rti, Swi, Wai}
 use Rattle.board_numbers.specs.Numbers.{operationBytes}
 
 -- the first three of some bytes, then others

@@ -9,8 +9,9 @@ use lib.ListN.{length}
 use borrow.Author.Tests.{eq-eqb, ne-eqb, lt-ltb, le-ltb, eqb-true, eqb-false, ltb-true, ltb-false}
 use Rattle.laws.proofs.Conds.{picks, passes}
 use Rattle.laws.proofs.Options.{some-none}
-use Rattle.session.specs.Session.{checkOf}
+use Rattle.session.specs.Session.{checkOf, faultNumber}
 use Rattle.session.specs.declared.Fault.{Fault}
+use Rattle.session.specs.declared.Fault.the-variants as fault
 use Rattle.session.specs.declared.Checked.{Checked}
 use Rattle.session.specs.declared.Checked.the-variants.{Sound, Bad}
 use Rattle.replies.specs.declared.Reply.{Reply}
@@ -20,12 +21,14 @@ use Rattle.machine.specs.Machine.{Ranges, rangesOf}
 use Rattle.machine.proofs.Ranges.{ranges-say}
 use Rattle.boundary.specs.declared.State.{State}
 use Rattle.boundary.specs.declared.Stop.{Stop}
-use Rattle.boundary.specs.Boundary.{Lent, Terms, World, Ended, worldOf, endedOf, runOf}
+use Rattle.boundary.specs.declared.Stop.the-variants as stop
+use Rattle.boundary.specs.World.{Lent, Terms, World, Ended, worldOf, endedOf, stopNumber}
+use Rattle.boundary.specs.Boundary.{runOf}
 use Rattle.boundary.specs.Counts.{Fine}
 use Rattle.boundary.specs.Start.{startOf, startWorld, ranOf}
 use Rattle.cabinet.specs.declared.Admission.{Admission}
 use Rattle.cabinet.specs.declared.Admission.the-variants.{Admitted, Refused}
-use Rattle.cabinet.specs.Answers.{toldAdmission, toldStop, refusalOf, End, endAt, onRefusal, endOf, endedWith}
+use Rattle.cabinet.specs.Answers.{toldAdmission, toldStop, refusalOf, End, endAt, onRefusal, endOf, endedWith, answerOf}
 
 pub start-fine : (m : Machine) {s : State} → s ≡ startOf m → Fine s
 start-fine m e = subst Fine (sym e) (record { instructions = omega arith; entries = omega arith; leaps = omega arith; used = omega arith })
@@ -131,3 +134,24 @@ module _ (asked : Terms) (m : Machine) (given : Lent) where
   pub left-cases : (P : World → Type 0) → P (startWorld m given) → (checkOf (asked .session) ≡ Sound → P (ranOf asked m given .world))
       → P (endOf asked m given .world)
   left-cases P s r = end-cases (λ x. P (x .world)) (λ l. s) (λ l f. s) (λ l f h. s) (λ a f e. s) (λ a e. r e)
+
+-- 01's replies to a run are 0 to 9
+fault-most : (f : Fault) → faultNumber f ≤ 9
+fault-most (fault.Length k) = omega arith
+fault-most (fault.Kind k) = omega arith
+fault-most (fault.Value k) = omega arith
+fault-most (fault.Time k) = omega arith
+
+stop-most : (s : Stop) → stopNumber s ≤ 9
+stop-most stop.Limit = omega arith
+stop-most stop.Undefined = omega arith
+stop-most stop.Full = omega arith
+
+pub reply-most : (asked : Terms) (m : Machine) (given : Lent) → answerOf asked m given .reply .number ≤ 9
+reply-most asked m given =
+    end-cases asked m given (λ x. x .reply .number ≤ 9)
+    (λ l. omega arith)
+    (λ l r. omega arith)
+    (λ l r h. omega arith)
+    (λ p f e. fault-most f)
+    (λ p e. stop-most (ranOf asked m given .stop))

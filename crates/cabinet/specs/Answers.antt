@@ -9,7 +9,7 @@ use Rattle.replies.specs.Replies.{Told, told, toldReply, toldCheck}
 use Rattle.machine.specs.declared.Machine.{Machine}
 use Rattle.machine.specs.Machine.{rangesOf}
 use Rattle.boundary.specs.declared.Stop.{Stop}
-use Rattle.boundary.specs.Boundary.{Lent, Terms, World, Ended, worldOf, stopNumber}
+use Rattle.boundary.specs.World.{Lent, Terms, World, Ended, worldOf, stopNumber}
 use Rattle.boundary.specs.Start.{startWorld, ranOf}
 use Rattle.cabinet.specs.declared.Ran.{Ran}
 use Rattle.cabinet.specs.declared.Ending.{Ending}

@@ -19,7 +19,7 @@ ghost use lib.ListN.{take};
 ghost use Rattle.asking.specs.Asking.{toldDecoded, opcodeAnswer};
 ghost use Rattle.power.specs.Power.{toldPower, powerAnswer};
 ghost use Rattle.replies.specs.Replies.{toldReply, toldCheck};
-ghost use Rattle.boundary.specs.Boundary.{lent, terms};
+ghost use Rattle.boundary.specs.World.{lent, terms};
 ghost use Rattle.boundary.specs.Start.{startOf};
 ghost use Rattle.cabinet.specs.Answers.{refusalOf, toldAdmission, toldStop, endedWith, endOf};
 ghost use Rattle.cabinet.specs.Answers.{reportOf, answered, answerOf, leapsOf};

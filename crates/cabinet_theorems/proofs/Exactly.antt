@@ -17,7 +17,7 @@ use Rattle.machine.specs.Machine.{Ranges, rangesOf}
 use Rattle.machine.proofs.Ranges.{ranges-say, say-ranges}
 use Rattle.boundary.specs.declared.Stop.{Stop}
 use Rattle.boundary.specs.declared.Stop.the-variants.{Limit, Undefined, Full}
-use Rattle.boundary.specs.Boundary.{Lent, Terms, stopNumber}
+use Rattle.boundary.specs.World.{Lent, Terms, stopNumber}
 use Rattle.boundary.specs.Start.{startWorld, ranOf}
 use Rattle.laws.proofs.Known.{known}
 use Rattle.replies.specs.Replies.{Told, told, toldFault, toldCheck}

@@ -8,7 +8,7 @@ use lib.ListN.{length, take, drop}
 use Rattle.machine.specs.declared.Machine.{Machine}
 use Rattle.machine.specs.Machine.{Ranges}
 use Rattle.machine.proofs.Ranges.{ranges-say, say-ranges}
-use Rattle.boundary.specs.Boundary.{Lent, Terms, World}
+use Rattle.boundary.specs.World.{Lent, Terms, World}
 use Rattle.boundary.specs.Start.{startWorld, ranOf}
 use Rattle.boundary_theorems.specs.Trace as trace
 use Rattle.boundary_theorems.specs.Tallies.{Tally, talliesOf, total}

@@ -3,7 +3,7 @@
 use mathlib.Core.Path.{_≡_, sym, ap, _∙_}
 use Rattle.replies.proofs.Known.{reply-known}
 use Rattle.machine.specs.declared.Machine.{Machine}
-use Rattle.boundary.specs.Boundary.{Lent, Terms}
+use Rattle.boundary.specs.World.{Lent, Terms}
 use Rattle.cabinet.specs.declared.Ran.{Ran}
 use Rattle.cabinet.specs.declared.Leapt.{Leapt}
 use Rattle.cabinet.specs.Answers.{Answer, answered, answerOf, leapsOf}

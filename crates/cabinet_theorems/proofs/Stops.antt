@@ -9,6 +9,7 @@ use lib.Dec.{leb, eqb}
 use lib.ListN.{length}
 use borrow.Author.Tests.{leb-true, leb-false, eqb-true}
 use Rattle.turns.specs.Turn.{Turn}
+use Rattle.registers.specs.Cpu.{idles}
 use Rattle.serial.specs.Serial.{wantsToSend, sentOf}
 use Rattle.machine.specs.declared.Machine.{Machine}
 use Rattle.machine.specs.declared.Pending.{Pending}
@@ -20,7 +21,8 @@ use Rattle.machine.specs.Steps.{lookOf}
 use Rattle.boundary.specs.declared.State.{State}
 use Rattle.boundary.specs.declared.Stop.{Stop}
 use Rattle.boundary.specs.declared.Stop.the-variants.{Limit, Undefined, Full}
-use Rattle.boundary.specs.Boundary.{World, Ended, worldOf, recordsOf, sendsOf, sentState, sentWorld, onPending, actOf, sendOf, boundaryOf, runOf}
+use Rattle.boundary.specs.World.{Terms, World, Ended, memoriesIn}
+use Rattle.boundary.specs.Boundary.{recordsOf, fedWorld, sendsOf, sentState, sentWorld, executedOf, onPending, actOf, sendOf, boundaryOf, runOf}
 use Rattle.laws.proofs.Conds.{cases}
 use Rattle.boundary.proofs.Cases.{records-cycles}
 use Rattle.boundary.proofs.Runs.{Then, run-keeps}
@@ -83,9 +85,9 @@ module _ (asked : Terms) where
   turn-shows : (w : World) → EndsThen (boundaryOf asked w)
   unfolding boundaryOf sendOf sentState
   turn-shows w =
-      let f = recordsOf asked (w .lent) (w .state) in
-      let r = worldOf f (w .lent) in
-      let c = records-cycles asked (w .lent) (w .state) in
+      let r = fedWorld (asked .session) w in
+      let f = r .state in
+      let c = records-cycles (asked .session) (memoriesIn (w .lent)) (w .state) in
       cases EndsThen (leb (asked .limit) (w .state .cycles .0))
       (λ e. leb-true _ _ e)
       (λ e. let l = leb-false (asked .limit) (w .state .cycles .0) e in

@@ -5,6 +5,7 @@ use bits::Flag;
 use bus::Bus;
 use bus::peek;
 use cpu::Chip;
+use machine::Look;
 use machine::Machine;
 use ports::Port;
 use ports::Ports;
@@ -164,18 +165,30 @@ fn load(row: &[u8], image: &mut [u8]) {
     }
 }
 
+impl Ran {
+    // One instruction further; none where the opcode is undefined.
+    fn further(self, image: &mut [u8]) -> Ran {
+        let Look::Runs(i) = self.machine.look(image) else {
+            return self;
+        };
+        let moved = self.machine.step(i, image);
+        let machine = moved.machine;
+        Ran {
+            machine: machine,
+            cycles: std::num::wrapping_add_u64(self.cycles, moved.cycles.0 as u64),
+        }
+    }
+}
+
 fn run(machine: Machine, steps: u8, image: &mut [u8]) -> Ran {
-    let mut now = machine;
-    let mut cycles = 0;
+    let mut ran = Ran {
+        machine: machine,
+        cycles: 0,
+    };
     for _ in 0..steps {
-        let moved = now.step(image);
-        now = moved.machine;
-        cycles = std::num::wrapping_add_u64(cycles, moved.cycles as u64);
+        ran = ran.further(image);
     }
-    Ran {
-        machine: now,
-        cycles: cycles,
-    }
+    ran
 }
 
 // What changed: its name and what it is now.

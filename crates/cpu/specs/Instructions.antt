@@ -2,7 +2,6 @@
 -- 01: "Two-byte accesses go high byte first (pushed ones low first), each with its own effects."
 use Prim.Native.Nat.{ℕ}
 use mathlib.Core.Bool.{Bool, true, false, cond}
-use mathlib.Core.List.{List}
 use Rattle.bits.specs.Words.{high, low, paired, up, down}
 use Rattle.tables.specs.Tables.{vectorOf}
 use Rattle.tables.specs.declared.Vector.the-variants.{Swi}
@@ -16,7 +15,8 @@ use Rattle.opcodes.specs.declared.Branch.{Branch}
 use Rattle.opcodes.specs.declared.Operation.{Operation}
 use Rattle.opcodes.specs.declared.Operation.the-variants as operations
 use Rattle.opcodes.specs.declared.Place.{Place}
-use Rattle.opcodes.specs.declared.Place.the-variants.{Inherent, AccumulatorA, AccumulatorB, ImmediateByte, ImmediateWord, Direct, Indexed, Extended, Relative}
+use Rattle.opcodes.specs.declared.Place.the-variants.{Inherent, AccumulatorA, AccumulatorB, ImmediateByte, ImmediateWord}
+use Rattle.opcodes.specs.declared.Place.the-variants.{Direct, Indexed, Extended, Relative}
 use Rattle.opcodes.specs.declared.Instruction.{Instruction}
 use Rattle.arithmetic.specs.Codes.{codesByte, codesOf}
 use Rattle.arithmetic.specs.Results.{dyadicOf, monadicOf, testedOf, movedOf, moved16Of}
@@ -25,7 +25,8 @@ use Rattle.registers.specs.declared.Cpu.{Cpu}
 use Rattle.cpu.specs.declared.Target.{Target}
 use Rattle.cpu.specs.declared.Target.the-variants.{In, Memory}
 use Rattle.cpu.specs.Act.{Act, Act.done, read, write, _>>=_, _>>_}
-use Rattle.registers.specs.Cpu.{withX, withSp, withPc, withCodes, withWaiting, accumulator, withAccumulator, resultIn, withI, internalOf, wideOf, storedOf, offset}
+use Rattle.registers.specs.Cpu.{withX, withSp, withPc, withCodes, withWaiting, accumulator, withAccumulator, resultIn, withI}
+use Rattle.registers.specs.Cpu.{internalOf, wideOf, storedOf, offset}
 
 -- two bytes, the high one first
 unfoldable pub read2 : ℕ → Act ℕ
@@ -238,8 +239,9 @@ operate operations.Rti place at c = rti c
 operate operations.Swi place at c = swi c
 operate operations.Wai place at c = wai c
 
--- an instruction whose opcode was fetched: its operand, then its operation
+-- an instruction: its opcode is fetched (what it is was told by a look, which has no effect), then its operand is found, then it operates
 unfoldable pub execute : Instruction → Cpu → Act Cpu
 execute i c = do
-  o ← operand (i .place) c
+  read (c .pc)
+  o ← operand (i .place) (withPc c (up (c .pc) 1))
   operate (i .operation) (i .place) (o .at) (o .cpu)

@@ -16,8 +16,10 @@ use registers::Cpu;
 use tables::Vector;
 ghost use mathlib.Core.Path.{_≡_};
 ghost use Rattle.tables.specs.Tables.{vectorOf};
+ghost use Rattle.bus.specs.Access.{memories, readOf};
 ghost use Rattle.cpu.specs.Act.{run, out};
-ghost use Rattle.cpu.specs.Instructions.{read2, write2, operand, dyadic, monadic, tst, sta, wide, wideStore, push, push2, pull, pull2, psh, pul, pshx, pulx, branch, jsr, rts, stackAll, rti, vectored, swi, wai, enter, targetOf, operate, execute};
+ghost use Rattle.cpu.specs.Instructions.{read2, write2, operand, dyadic, monadic, tst, sta, wide, wideStore, push, push2, pull, pull2, pul, pulx};
+ghost use Rattle.cpu.specs.Instructions.{branch, jsr, rts, stackAll, rti, vectored, swi, wai, enter, targetOf, operate, execute};
 ghost use Rattle.cpu.specs.Chip.{runOn, ran, located, popped, poppedWord, withCpu, chipOf};
 ghost use Rattle.bits.specs.Words.{up};
 ghost use Rattle.arithmetic.specs.Results.{monadicOf, testedOf};
@@ -72,7 +74,7 @@ pub fn target_of(place: Place) -> Target
 
 // Two bytes, the high one first.
 pub fn read_word(b: Bus, image: &[u8], at: u16) -> WordRead
-    ensures { λ r. ⌜ run (read2 at) b (now (image .entry)) ≡ out (r .value) (r .next) (now (image .entry)) ⌝ }
+    ensures { λ r. ⌜ run (read2 at) b (memories (now (image .entry))) ≡ out (r .value) (r .next) (memories (now (image .entry))) ⌝ }
 {
     let h = b.read(image, at);
     let l = h.next.read(image, plus(at, 1));
@@ -84,7 +86,7 @@ pub fn read_word(b: Bus, image: &[u8], at: u16) -> WordRead
 }
 
 fn write_word(b: Bus, image: &mut [u8], at: u16, w: u16) -> Bus
-    ensures { λ r. ⌜ run (write2 at w) b (now (image .entry)) ≡ out tt r (now (image .exit)) ⌝ }
+    ensures { λ r. ⌜ run (write2 at w) b (memories (now (image .entry))) ≡ out tt r (memories (now (image .exit))) ⌝ }
 {
     let c = b.write(image, at, bits::upper(w));
     c.write(image, plus(at, 1), bits::lower(w))
@@ -102,7 +104,7 @@ fn spot_at(at: u16, c: Cpu, b: Bus, n: u16) -> Located
 impl Chip {
     // Where the operand is.
     fn locate(self, place: Place, image: &[u8]) -> Located
-        ensures { λ r. ⌜ runOn (operand place) self (now (image .entry)) ≡ located r (now (image .entry)) ⌝ }
+        ensures { λ r. ⌜ runOn (operand place) self (memories (now (image .entry))) ≡ located r (memories (now (image .entry))) ⌝ }
     {
         let c = self.cpu;
         let b = self.bus;
@@ -134,7 +136,7 @@ impl Chip {
 
     // SUB CMP SBC AND BIT LDA EOR ADC ORA ADD.
     fn dyadic(self, op: Dyadic, acc: Accumulator, at: u16, image: &[u8]) -> Chip
-        ensures { λ r. ⌜ runOn (dyadic op acc at) self (now (image .entry)) ≡ ran r (now (image .entry)) ⌝ }
+        ensures { λ r. ⌜ runOn (dyadic op acc at) self (memories (now (image .entry))) ≡ ran r (memories (now (image .entry))) ⌝ }
     {
         let c = self.cpu;
         let f = self.bus.read(image, at);
@@ -156,7 +158,7 @@ impl Chip {
 
     // Read, modify, write.
     fn monadic_at(self, op: Monadic, at: u16, image: &mut [u8]) -> Chip
-        ensures { λ r. ⌜ runOn (monadic op Target.Memory at) self (now (image .entry)) ≡ ran r (now (image .exit)) ⌝ }
+        ensures { λ r. ⌜ runOn (monadic op Target.Memory at) self (memories (now (image .entry))) ≡ ran r (memories (now (image .exit))) ⌝ }
     {
         let c = self.cpu;
         let f = self.bus.read(image, at);
@@ -168,7 +170,7 @@ impl Chip {
 
     // NEG COM LSR ROR ASR ASL ROL DEC INC CLR.
     fn monadic(self, op: Monadic, target: Target, at: u16, image: &mut [u8]) -> Chip
-        ensures { λ r. ⌜ runOn (monadic op target at) self (now (image .entry)) ≡ ran r (now (image .exit)) ⌝ }
+        ensures { λ r. ⌜ runOn (monadic op target at) self (memories (now (image .entry))) ≡ ran r (memories (now (image .exit))) ⌝ }
     {
         match target {
             Target::In(acc) => self.monadic_in(op, acc),
@@ -184,7 +186,7 @@ impl Chip {
     }
 
     fn tst(self, target: Target, at: u16, image: &[u8]) -> Chip
-        ensures { λ r. ⌜ runOn (tst target at) self (now (image .entry)) ≡ ran r (now (image .entry)) ⌝ }
+        ensures { λ r. ⌜ runOn (tst target at) self (memories (now (image .entry))) ≡ ran r (memories (now (image .entry))) ⌝ }
     {
         match target {
             Target::In(acc) => self.tested(self.bus, self.cpu.of(acc)),
@@ -196,7 +198,7 @@ impl Chip {
     }
 
     fn sta(self, acc: Accumulator, at: u16, image: &mut [u8]) -> Chip
-        ensures { λ r. ⌜ runOn (sta acc at) self (now (image .entry)) ≡ ran r (now (image .exit)) ⌝ }
+        ensures { λ r. ⌜ runOn (sta acc at) self (memories (now (image .entry))) ≡ ran r (memories (now (image .exit))) ⌝ }
     {
         let c = self.cpu;
         let v = c.of(acc);
@@ -207,7 +209,7 @@ impl Chip {
 
     // SUBD ADDD CPX LDD LDS LDX.
     fn wide(self, op: Wide, at: u16, image: &[u8]) -> Chip
-        ensures { λ r. ⌜ runOn (wide op at) self (now (image .entry)) ≡ ran r (now (image .entry)) ⌝ }
+        ensures { λ r. ⌜ runOn (wide op at) self (memories (now (image .entry))) ≡ ran r (memories (now (image .entry))) ⌝ }
     {
         let w = read_word(self.bus, image, at);
         let bus = w.next;
@@ -217,7 +219,7 @@ impl Chip {
 
     // STD STS STX.
     fn wide_store(self, op: WideStore, at: u16, image: &mut [u8]) -> Chip
-        ensures { λ r. ⌜ runOn (wideStore op at) self (now (image .entry)) ≡ ran r (now (image .exit)) ⌝ }
+        ensures { λ r. ⌜ runOn (wideStore op at) self (memories (now (image .entry))) ≡ ran r (memories (now (image .exit))) ⌝ }
     {
         let c = self.cpu;
         let w = c.stored(op);
@@ -230,7 +232,7 @@ impl Chip {
 // The stack.
 impl Chip {
     fn push(self, v: u8, image: &mut [u8]) -> Chip
-        ensures { λ r. ⌜ runOn (push v) self (now (image .entry)) ≡ ran r (now (image .exit)) ⌝ }
+        ensures { λ r. ⌜ runOn (push v) self (memories (now (image .entry))) ≡ ran r (memories (now (image .exit))) ⌝ }
     {
         let c = self.cpu;
         let bus = self.bus.write(image, c.sp, v);
@@ -239,14 +241,14 @@ impl Chip {
     }
 
     fn push_word(self, w: u16, image: &mut [u8]) -> Chip
-        ensures { λ r. ⌜ runOn (push2 w) self (now (image .entry)) ≡ ran r (now (image .exit)) ⌝ }
+        ensures { λ r. ⌜ runOn (push2 w) self (memories (now (image .entry))) ≡ ran r (memories (now (image .exit))) ⌝ }
     {
         let p = self.push(bits::lower(w), image);
         p.push(bits::upper(w), image)
     }
 
     fn pull(self, image: &[u8]) -> Popped
-        ensures { λ r. ⌜ runOn pull self (now (image .entry)) ≡ popped r (now (image .entry)) ⌝ }
+        ensures { λ r. ⌜ runOn pull self (memories (now (image .entry))) ≡ popped r (memories (now (image .entry))) ⌝ }
     {
         let c = self.cpu;
         let sp = plus(c.sp, 1);
@@ -261,7 +263,7 @@ impl Chip {
     }
 
     fn pull_word(self, image: &[u8]) -> PoppedWord
-        ensures { λ r. ⌜ runOn pull2 self (now (image .entry)) ≡ poppedWord r (now (image .entry)) ⌝ }
+        ensures { λ r. ⌜ runOn pull2 self (memories (now (image .entry))) ≡ poppedWord r (memories (now (image .entry))) ⌝ }
     {
         let h = self.pull(image);
         let l = h.chip.pull(image);
@@ -273,7 +275,7 @@ impl Chip {
     }
 
     fn pul(self, acc: Accumulator, image: &[u8]) -> Chip
-        ensures { λ r. ⌜ runOn (pul acc) self (now (image .entry)) ≡ ran r (now (image .entry)) ⌝ }
+        ensures { λ r. ⌜ runOn (pul acc) self (memories (now (image .entry))) ≡ ran r (memories (now (image .entry))) ⌝ }
     {
         let p = self.pull(image);
         let chip = p.chip;
@@ -283,7 +285,7 @@ impl Chip {
     }
 
     fn pulx(self, image: &[u8]) -> Chip
-        ensures { λ r. ⌜ runOn pulx self (now (image .entry)) ≡ ran r (now (image .entry)) ⌝ }
+        ensures { λ r. ⌜ runOn pulx self (memories (now (image .entry))) ≡ ran r (memories (now (image .entry))) ⌝ }
     {
         let p = self.pull_word(image);
         let chip = p.chip;
@@ -303,13 +305,13 @@ impl Chip {
 
     // JSR, and BSR.
     fn jsr(self, at: u16, image: &mut [u8]) -> Chip
-        ensures { λ r. ⌜ runOn (jsr at) self (now (image .entry)) ≡ ran r (now (image .exit)) ⌝ }
+        ensures { λ r. ⌜ runOn (jsr at) self (memories (now (image .entry))) ≡ ran r (memories (now (image .exit))) ⌝ }
     {
         self.push_word(self.cpu.pc, image).at(at)
     }
 
     fn rts(self, image: &[u8]) -> Chip
-        ensures { λ r. ⌜ runOn rts self (now (image .entry)) ≡ ran r (now (image .entry)) ⌝ }
+        ensures { λ r. ⌜ runOn rts self (memories (now (image .entry))) ≡ ran r (memories (now (image .entry))) ⌝ }
     {
         let p = self.pull_word(image);
         p.chip.at(p.value)
@@ -317,7 +319,7 @@ impl Chip {
 
     // All registers, PC first.
     fn stack_all(self, image: &mut [u8]) -> Chip
-        ensures { λ r. ⌜ runOn stackAll self (now (image .entry)) ≡ ran r (now (image .exit)) ⌝ }
+        ensures { λ r. ⌜ runOn stackAll self (memories (now (image .entry))) ≡ ran r (memories (now (image .exit))) ⌝ }
     {
         let c = self.cpu;
         let words = self.push_word(c.pc, image).push_word(c.x, image);
@@ -328,7 +330,7 @@ impl Chip {
     }
 
     fn rti(self, image: &[u8]) -> Chip
-        ensures { λ r. ⌜ runOn rti self (now (image .entry)) ≡ ran r (now (image .entry)) ⌝ }
+        ensures { λ r. ⌜ runOn rti self (memories (now (image .entry))) ≡ ran r (memories (now (image .entry))) ⌝ }
     {
         let k = self.pull(image);
         let b = k.chip.pull(image);
@@ -351,7 +353,7 @@ impl Chip {
 
     // I set, PC from a vector, no wait.
     fn vectored(self, vector: u16, image: &[u8]) -> Chip
-        ensures { λ r. ⌜ runOn (vectored vector) self (now (image .entry)) ≡ ran r (now (image .entry)) ⌝ }
+        ensures { λ r. ⌜ runOn (vectored vector) self (memories (now (image .entry))) ≡ ran r (memories (now (image .entry))) ⌝ }
     {
         let c = self.cpu;
         let w = read_word(self.bus, image, vector);
@@ -363,14 +365,14 @@ impl Chip {
     }
 
     fn swi(self, image: &mut [u8]) -> Chip
-        ensures { λ r. ⌜ runOn swi self (now (image .entry)) ≡ ran r (now (image .exit)) ⌝ }
+        ensures { λ r. ⌜ runOn swi self (memories (now (image .entry))) ≡ ran r (memories (now (image .exit))) ⌝ }
     {
         let p = self.stack_all(image);
         p.vectored(tables::address_of(Vector::Swi), image)
     }
 
     fn wai(self, image: &mut [u8]) -> Chip
-        ensures { λ r. ⌜ runOn wai self (now (image .entry)) ≡ ran r (now (image .exit)) ⌝ }
+        ensures { λ r. ⌜ runOn wai self (memories (now (image .entry))) ≡ ran r (memories (now (image .exit))) ⌝ }
     {
         let p = self.stack_all(image);
         let bus = p.bus;
@@ -380,7 +382,7 @@ impl Chip {
 
     // Interrupt entry.
     pub fn enter(self, vector: u16, image: &mut [u8]) -> Chip
-        ensures { λ r. ⌜ runOn (enter vector) self (now (image .entry)) ≡ ran r (now (image .exit)) ⌝ }
+        ensures { λ r. ⌜ runOn (enter vector) self (memories (now (image .entry))) ≡ ran r (memories (now (image .exit))) ⌝ }
     {
         if self.cpu.waiting {
             return self.vectored(vector, image);
@@ -411,7 +413,7 @@ impl Chip {
     }
 
     fn operate(self, operation: Operation, place: Place, at: u16, image: &mut [u8]) -> Chip
-        ensures { λ r. ⌜ runOn (operate operation place at) self (now (image .entry)) ≡ ran r (now (image .exit)) ⌝ }
+        ensures { λ r. ⌜ runOn (operate operation place at) self (memories (now (image .entry))) ≡ ran r (memories (now (image .exit))) ⌝ }
     {
         match operation {
             Operation::Internal(op) => self.internal(op),
@@ -436,12 +438,28 @@ impl Chip {
         }
     }
 
-    // An instruction whose opcode was fetched.
-    pub fn execute(self, i: Instruction, image: &mut [u8]) -> Chip
-        ensures { λ r. ⌜ runOn (execute i) self (now (image .entry)) ≡ ran r (now (image .exit)) ⌝ }
+    // The opcode's fetch: below $20 its read may have an effect, above none.
+    fn fetched(mut self, image: &[u8]) -> Chip
+        ensures { λ r. ⌜ r ≡ chipOf (withPc (self .cpu) (up (self .cpu .pc) 1)) (readOf (memories (now (image .entry))) (self .cpu .pc) (self .bus) .next) ⌝ }
     {
+        let pc = self.cpu.pc;
+        let cpu = self.cpu.with_pc(plus(pc, 1));
+        self.cpu = cpu;
+        if pc < 32 {
+            let f = self.bus.read(image, pc);
+            let bus = f.next;
+            self.bus = bus;
+            return self;
+        }
+        self
+    }
+
+    pub fn execute(self, i: Instruction, image: &mut [u8]) -> Chip
+        ensures { λ r. ⌜ runOn (execute i) self (memories (now (image .entry))) ≡ ran r (memories (now (image .exit))) ⌝ }
+    {
+        let f = self.fetched(image);
         let place = i.place;
-        let o = self.locate(place, image);
+        let o = f.locate(place, image);
         let operation = i.operation;
         o.chip.operate(operation, place, o.at, image)
     }

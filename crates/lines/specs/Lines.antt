@@ -6,6 +6,7 @@ use mathlib.Core.Option.{Option, none, some}
 use Rattle.arithmetic.specs.Codes.{codesByte}
 use Rattle.registers.specs.declared.Cpu.{Cpu}
 use Rattle.printing.specs.Printing.{ascii, decimalOf, hexadecimalOf}
+use Rattle.replies.specs.Replies.{Told}
 use Rattle.lines.specs.declared.Numbers.{Numbers}
 
 -- a word, and a number in decimal; a word, and so many digits in hexadecimal
@@ -37,3 +38,6 @@ registersText c =
 unfoldable pub refusedText : ℕ → Option ℕ → List ℕ
 refusedText k none = counted "refused " k
 refusedText k (some r) = counted "refused " k ++ counted " record " r
+
+abbrev pub refusal : Told → List ℕ
+refusal t = refusedText (t .number) (t .named)

@@ -1,11 +1,13 @@
 // The words that the programs' lines share: counts, registers and refusals.
 use printing::Line;
 use registers::Cpu;
+use replies::Reply;
 ghost use mathlib.Core.Path.{_≡_};
 ghost use mathlib.Core.List.{_++_};
 ghost use mathlib.Core.Option.{none, some};
 ghost use Rattle.printing.specs.Printing.{decimalOf, hexadecimalOf, emptyLine, putsOf};
-ghost use Rattle.lines.specs.Lines.{countsText, registersText, refusedText};
+ghost use Rattle.replies.specs.Replies.{toldReply};
+ghost use Rattle.lines.specs.Lines.{countsText, registersText, refusedText, refusal};
 
 // The counts that every line of a run tells.
 pub struct Numbers {
@@ -70,4 +72,22 @@ pub fn refused_record(number: u8, named: usize) -> Line
     ensures { λ r. ⌜ r ≡ putsOf emptyLine (refusedText number (some named)) ⌝ }
 {
     numbered(refused(number), b" record ", named as u64)
+}
+
+// The refusal with a reply that no run stops with.
+pub fn refusal_line(reply: Reply) -> Line
+    ensures { λ r. ⌜ r ≡ putsOf emptyLine (refusal (toldReply reply)) ⌝ }
+{
+    match reply {
+        Reply::Limit => refused(0),
+        Reply::WrongImage => refused(1),
+        Reply::WrongMachine => refused(2),
+        Reply::WrongLimit => refused(3),
+        Reply::Length(k) => refused_record(4, k),
+        Reply::Kind(k) => refused_record(5, k),
+        Reply::Value(k) => refused_record(6, k),
+        Reply::Time(k) => refused_record(7, k),
+        Reply::Undefined => refused(8),
+        Reply::Full => refused(9),
+    }
 }

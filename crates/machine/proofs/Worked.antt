@@ -15,7 +15,7 @@ use Rattle.ports.specs.Ports.{readPort, readPorts, resetPorts}
 use Rattle.timer.specs.Timer.{withWords, tcsrOf, readTimer, writeTimer, ticks, resetTimer}
 use Rattle.serial.specs.Serial.{trcsOf, writeSerial, receivedByte, ticksSerial, resetSerial}
 use Rattle.bus.specs.declared.Bus.{Bus}
-use Rattle.bus.specs.Access.{withTimer, readOf, writeOf, storeOf}
+use Rattle.bus.specs.Access.{Memories, memories, withTimer, readOf, writeOf, storeOf}
 use Rattle.bus.specs.Units.{passed, resetBus}
 use Rattle.cpu.specs.Act.{run, read, write, _>>=_}
 use Rattle.cpu.specs.Instructions.{read2, operand, monadic, sta, wide, push, push2, stackAll, vectored, enter, operate, execute}
@@ -24,18 +24,26 @@ use Rattle.machine.specs.declared.Machine.{Machine}
 use Rattle.machine.specs.declared.Cause.the-variants.{Irq1}
 use Rattle.machine.specs.Machine.{onChip, passedOf, resetAct, resetOf, cold}
 use Rattle.machine.specs.Events.{appliedOf, onBus}
-use Rattle.machine.specs.Steps.{Stepped, enteredOf, instructed, stepOf}
+use Rattle.machine.specs.declared.Look.{Look}
+use Rattle.machine.specs.declared.Look.the-variants.{Runs, Undefined}
+use Rattle.machine.specs.Steps.{Stepped, enteredOf, lookOf, stepOf}
 use Rattle.machine.proofs.Reset.{vector-read}
 
 -- a machine after reset, all memory writable; the image's bytes past its end are 0
 abbrev start : Machine
-start = resetOf [] (cold 65536)
+start = resetOf (memories []) (cold 65536)
+
+-- what is told of the step that a look says; nothing where it says that there is none
+abbrev told : (Stepped → List ℕ) → Look → Memories → Machine → List ℕ
+told f (Runs i) memory m = f (stepOf i memory m)
+told f Undefined memory m = []
 
 -- one step of the code at $0004 with A, B and X given, all codes clear
-abbrev stepped : ℕ → ℕ → ℕ → List ℕ → Stepped
-stepped a b x code =
-    stepOf (0 ∷ 0 ∷ 0 ∷ 0 ∷ code)
-    (onChip start (record { a = a; b = b; x = x; sp = 0; pc = 4; codes = codesOf 0xC0; waiting = false }) (start .chip .bus))
+abbrev stepped : (Stepped → List ℕ) → ℕ → ℕ → ℕ → List ℕ → List ℕ
+stepped f a b x code =
+    let memory = memories (0 ∷ 0 ∷ 0 ∷ 0 ∷ code) in
+    let m = onChip start (record { a = a; b = b; x = x; sp = 0; pc = 4; codes = codesOf 0xC0; waiting = false }) (start .chip .bus) in
+    told f (lookOf memory m) memory m
 
 -- what a step leaves
 abbrev cpu : Stepped → Cpu
@@ -68,9 +76,9 @@ stored m = m .chip .bus .serial .received ∷ trcsOf (m .chip .bus .serial) ∷ 
 abbrev entered : Bool → List ℕ
 entered waiting =
     let s =
-    enteredOf Irq1 (from (λ (at : ℕ). 0) 0 0x88)
+    enteredOf Irq1 (memories (from (λ (at : ℕ). 0) 0 0x88))
     (onChip start (record { a = 0x0A; b = 0x0B; x = 0x1234; sp = 0x87; pc = 0x5678; codes = codesOf 0xC5; waiting = waiting }) (start .chip .bus)) in
-    s .cycles ∷ cpu s .pc ∷ cpu s .sp ∷ codes s ∷ drop 0x81 (s .memory)
+    s .cycles ∷ cpu s .pc ∷ cpu s .sp ∷ codes s ∷ drop 0x81 (s .memory .image)
 
 -- an example, and what it is to be
 infix 10 _is_
@@ -91,30 +99,32 @@ two f s = f s ∷ codes s ∷ []
 
 abbrev pub table : List Row
 table =
-    (two double (stepped 0xFF 0xFF 0 (0x3D ∷ [])) is 0xFE01 ∷ 0xC0 ∷ [])  -- MUL FF by FF gives FE01, C 0
-    ∷ (two accumulatorA (stepped 0x9A 0 0 (0x19 ∷ [])) is 0x00 ∷ 0xC5 ∷ [])  -- DAA of 9A, H and C 0, gives 00, C and Z 1
-    ∷ (two accumulatorA (stepped 0x80 0 0 (0x40 ∷ [])) is 0x80 ∷ 0xCB ∷ [])  -- NEGA 80 gives 80, V and C 1
-    ∷ (two accumulatorA (stepped 0x00 0 0 (0x40 ∷ [])) is 0x00 ∷ 0xC4 ∷ [])  -- NEGA 00, C 0
-    ∷ (two accumulatorA (stepped 0x7F 0 0 (0x4C ∷ [])) is 0x80 ∷ 0xCA ∷ [])  -- INCA 7F gives 80, V 1
-    ∷ (one codes (stepped 0 0 0x8000 (0x8C ∷ 0x00 ∷ 0x01 ∷ [])) is 0xC2 ∷ [])  -- CPX 8000 against 0001: V 1, C 0, N 0
-    ∷ (one (λ s. cpu s .x) (stepped 0 0x20 0xFFF0 (0x3A ∷ [])) is 0x0010 ∷ [])  -- ABX FFF0 with B 20 gives 0010
-    ∷ (one (λ s. cpu s .sp) (stepped 0 0 0 (0x35 ∷ [])) is 0xFFFF ∷ [])  -- TXS with X 0 gives FFFF
+    (stepped (two double) 0xFF 0xFF 0 (0x3D ∷ []) is 0xFE01 ∷ 0xC0 ∷ [])  -- MUL FF by FF gives FE01, C 0
+    ∷ (stepped (two accumulatorA) 0x9A 0 0 (0x19 ∷ []) is 0x00 ∷ 0xC5 ∷ [])  -- DAA of 9A, H and C 0, gives 00, C and Z 1
+    ∷ (stepped (two accumulatorA) 0x80 0 0 (0x40 ∷ []) is 0x80 ∷ 0xCB ∷ [])  -- NEGA 80 gives 80, V and C 1
+    ∷ (stepped (two accumulatorA) 0x00 0 0 (0x40 ∷ []) is 0x00 ∷ 0xC4 ∷ [])  -- NEGA 00, C 0
+    ∷ (stepped (two accumulatorA) 0x7F 0 0 (0x4C ∷ []) is 0x80 ∷ 0xCA ∷ [])  -- INCA 7F gives 80, V 1
+    ∷ (stepped (one codes) 0 0 0x8000 (0x8C ∷ 0x00 ∷ 0x01 ∷ []) is 0xC2 ∷ [])  -- CPX 8000 against 0001: V 1, C 0, N 0
+    ∷ (stepped (one (λ s. cpu s .x)) 0 0x20 0xFFF0 (0x3A ∷ []) is 0x0010 ∷ [])  -- ABX FFF0 with B 20 gives 0010
+    ∷ (stepped (one (λ s. cpu s .sp)) 0 0 0 (0x35 ∷ []) is 0xFFFF ∷ [])  -- TXS with X 0 gives FFFF
     ∷ (counted 0xFFFC 0 3 is 0xFFFF ∷ 0x20 ∷ [])  -- Counter FFFC after 3 cycles sets TOF
     ∷ (counted 0xFFFF 0x0100 3 is 0x0002 ∷ 0x00 ∷ [])  -- FFFF after 3 cycles is 0002, TOF not set
     ∷ (counted 0x0010 0x0010 2 is 0x0012 ∷ 0x00 ∷ [])  -- Counter and compare both 0010, 2 cycles: no OCF
-    ∷ (one (λ s. s .machine .chip .bus .timer .counter) (stepped 0 0 0 (0x97 ∷ 0x09 ∷ [])) is 0xFFFB ∷ [])  -- STAA $09: counter FFFB afterwards
-    ∷ (stored (appliedOf (Received 0x42 true) [] (appliedOf (Received 0x41 true) [] receiving)) is 0x41 ∷ 0xE8 ∷ [])  -- bytes 41, 42: stored 41, TRCS E8
-    ∷ (stored (appliedOf (Received 0x41 false) [] receiving) is 0x00 ∷ 0x68 ∷ [])  -- a bad stop alone: 68
-    ∷ (readOf [] 0x03 (start .chip .bus) .value ∷ [] is 0x5A ∷ [])  -- Power-on read of $03: 5A
+    ∷ (stepped (one (λ s. s .machine .chip .bus .timer .counter)) 0 0 0 (0x97 ∷ 0x09 ∷ []) is 0xFFFB ∷ [])  -- STAA $09: counter FFFB afterwards
+    ∷ (stored (appliedOf (Received 0x42 true) (memories []) (appliedOf (Received 0x41 true) (memories []) receiving)) is 0x41 ∷ 0xE8 ∷ [])  -- bytes 41, 42: stored 41, TRCS E8
+    ∷ (stored (appliedOf (Received 0x41 false) (memories []) receiving) is 0x00 ∷ 0x68 ∷ [])  -- a bad stop alone: 68
+    ∷ (readOf (memories []) 0x03 (start .chip .bus) .value ∷ [] is 0x5A ∷ [])  -- Power-on read of $03: 5A
     ∷ (entered false is 12 ∷ 0 ∷ 0x80 ∷ 0xD5 ∷ 0xC5 ∷ 0x0B ∷ 0x0A ∷ 0x12 ∷ 0x34 ∷ 0x56 ∷ 0x78 ∷ [])  -- stacked downwards: PC low, PC high, X low, X high, A, B, codes
     ∷ (entered true is 4 ∷ 0 ∷ 0x87 ∷ 0xD5 ∷ 0 ∷ 0 ∷ 0 ∷ 0 ∷ 0 ∷ 0 ∷ 0 ∷ [])  -- out of a wait nothing is stacked
     ∷ []
 
 pub worked : map found table ≡ map meant table
-unfolding resetOf resetAct stepOf instructed appliedOf decodeOf codesByte codesOf movedOf sub16Of monadicOf daaOf mulOf xor readPort readPorts resetPorts readTimer writeTimer ticks resetTimer trcsOf writeSerial receivedByte ticksSerial resetSerial readOf writeOf storeOf passed resetBus run read write _>>=_ read2 operand monadic sta wide push push2 stackAll vectored enter enteredOf operate execute
+unfolding resetOf resetAct lookOf stepOf enteredOf appliedOf decodeOf codesByte codesOf movedOf sub16Of monadicOf daaOf mulOf xor
+    readPort readPorts resetPorts readTimer writeTimer ticks resetTimer trcsOf writeSerial receivedByte ticksSerial resetSerial readOf writeOf storeOf passed resetBus
+    run read write _>>=_ read2 operand monadic sta wide push push2 stackAll vectored enter operate execute
 worked = refl
 
 -- "Power-on read of $03: 5A", whatever the image and R
-pub power-read : (image : List ℕ) (r : ℕ) → readOf image 0x03 (resetOf image (cold r) .chip .bus) .value ≡ 0x5A
+pub power-read : (memory : Memories) (r : ℕ) → readOf memory 0x03 (resetOf memory (cold r) .chip .bus) .value ≡ 0x5A
 unfolding resetOf resetBus resetPorts resetTimer readOf readPorts readPort
-power-read image r = rw (vector-read image (resetBus (cold r .chip .bus)))
+power-read memory r = rw (vector-read memory (resetBus (cold r .chip .bus)))

@@ -13,6 +13,7 @@ use Rattle.ports.specs.declared.Ports.{Ports}
 use Rattle.timer.specs.Timer.{resetTimer}
 use Rattle.serial.specs.Serial.{resetSerial}
 use Rattle.bus.specs.declared.Bus.{Bus}
+use Rattle.bus.specs.Access.{Memories, memories}
 use Rattle.bus.specs.Units.{passed, resetBus, busRanges}
 use Rattle.registers.specs.declared.Cpu.{Cpu}
 use Rattle.cpu.specs.declared.Chip.{Chip}
@@ -55,7 +56,15 @@ passedOf k m = onChip m (m .chip .cpu) (passed k (m .chip .bus))
 
 -- "A, B, X, SP .. waiting .. all 0; condition codes $D0"
 abbrev pub resetCpu : ℕ → Cpu
-resetCpu pc = record { a = 0; b = 0; x = 0; sp = 0; pc = pc; codes = record { h = false; i = true; n = false; z = false; v = false; c = false }; waiting = false }
+resetCpu pc = record {
+  a = 0;
+  b = 0;
+  x = 0;
+  sp = 0;
+  pc = pc;
+  codes = record { h = false; i = true; n = false; z = false; v = false; c = false };
+  waiting = false;
+}
 
 -- "PC from $FFFE"
 unfoldable pub resetAct : Act Cpu
@@ -67,7 +76,7 @@ abbrev pub resetTo : Machine → Out Cpu → Machine
 resetTo m o = record { chip = record { cpu = o .value; bus = o .bus }; irq1 = m .irq1; nmi = false }
 
 -- reset: "pending NMI .. 0"; pins, IRQ1's level, R and memory are kept, and no cycles pass
-unfoldable pub resetOf : List ℕ → Machine → Machine
+unfoldable pub resetOf : Memories → Machine → Machine
 resetOf memory m = resetTo m (run resetAct (resetBus (m .chip .bus)) memory)
 
 -- what power-on resets: "port 1 pins $FF, port 2 pins $1A, IRQ1 high, bit 7 of $14 zero, and the R given"
@@ -84,15 +93,9 @@ cold r = record {
   nmi = false;
 }
 
--- "Power-on takes an image and R and gives a machine, or reply 1 or 2"
+-- "Power-on takes an image and R and gives a machine, or reply 1 or 2": 1 is WrongImage, 2 WrongStart
 unfoldable pub powerOnOf : List ℕ → ℕ → Power
 powerOnOf image r =
     cond (eqb (length image) 65536)
-    (cond (leb r 65536) (On (resetOf image (cold r))) WrongStart)
+    (cond (leb r 65536) (On (resetOf (memories image) (cold r))) WrongStart)
     WrongImage
-
--- 01's number of each answer
-abbrev pub powerNumber : Power → ℕ
-powerNumber (On m) = 0
-powerNumber WrongImage = 1
-powerNumber WrongStart = 2

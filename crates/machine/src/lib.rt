@@ -1,5 +1,6 @@
 // The machine: the chip with its lines, its ranges, reset and power-on, interrupts, events and one step.
 use bus::Bus;
+use counts::Cycles;
 use cpu::Chip;
 use opcodes::Decoded;
 use opcodes::Instruction;
@@ -12,11 +13,12 @@ use tables::Vector;
 use timer::Timer;
 ghost use mathlib.Core.Path.{_≡_};
 ghost use Prim.Native.Nat.{ℕ};
+ghost use Rattle.bus.specs.Access.{memories, readOf};
 ghost use Rattle.bus.specs.Units.{byteSent};
 ghost use Rattle.machine.specs.Machine.{rangesOf, passedOf, resetCpu, resetOf, cold, powerOnOf};
 ghost use Rattle.machine.specs.Interrupts.{pendingOf, vectorFor, nmiAfter};
 ghost use Rattle.machine.specs.Events.{appliedOf, onBus};
-ghost use Rattle.machine.specs.Steps.{moved, entryCycles, enteredOf, instructed, stepOf};
+ghost use Rattle.machine.specs.Steps.{moved, entryCycles, enteredOf, lookOf, stepOf};
 
 // `irq1` is the level of IRQ1, high where true; `nmi` is a pending NMI.
 pub struct Machine {
@@ -47,10 +49,16 @@ pub enum Pending {
     Due(Cause),
 }
 
-// The machine after a step and the cycles that it took: 0 where the opcode is undefined.
+// What stands at PC.
+pub enum Look {
+    Runs(Instruction),
+    Undefined,
+}
+
+// The machine after a step or an entry, and the cycles that it took.
 pub struct Moved {
     pub machine: Machine,
-    pub cycles: u8,
+    pub cycles: Cycles,
 }
 
 fn reset_cpu(pc: u16) -> Cpu
@@ -165,10 +173,10 @@ impl Machine {
     }
 
     // k cycles pass.
-    pub fn pass(self, k: u32) -> Machine
-        ensures { λ r. ⌜ r ≡ passedOf k self ⌝ }
+    pub fn pass(self, k: Cycles) -> Machine
+        ensures { λ r. ⌜ r ≡ passedOf (k .0) self ⌝ }
     {
-        self.with_bus(self.chip.bus.pass(k))
+        self.with_bus(self.chip.bus.pass(k.0))
     }
 
     // A byte was sent.
@@ -179,7 +187,7 @@ impl Machine {
     }
 
     pub fn reset(self, image: &[u8]) -> Machine
-        ensures { λ r. ⌜ r ≡ resetOf (now (image .entry)) self ⌝ }
+        ensures { λ r. ⌜ r ≡ resetOf (memories (now (image .entry))) self ⌝ }
     {
         let w = cpu::read_word(
             self.chip.bus.reset(),
@@ -227,7 +235,7 @@ impl Machine {
 
     // A session's event.
     pub fn apply(mut self, event: Event, image: &[u8]) -> Machine
-        ensures { λ r. ⌜ r ≡ appliedOf event (now (image .entry)) self ⌝ }
+        ensures { λ r. ⌜ r ≡ appliedOf event (memories (now (image .entry))) self ⌝ }
     {
         match event {
             Event::Port1(v) => self.with_bus(self.chip.bus.port1_pins(v)),
@@ -246,15 +254,19 @@ impl Machine {
         }
     }
 
-    fn entry_cycles(self) -> u8
-        ensures { λ r. ⌜ r ≡ entryCycles self ⌝ }
+    fn entry_cycles(self) -> Cycles
+        ensures { λ r. ⌜ r .0 ≡ entryCycles self ⌝ }
     {
-        if self.chip.cpu.waiting { 4 } else { 12 }
+        if self.chip.cpu.waiting {
+            Cycles(4)
+        } else {
+            Cycles(12)
+        }
     }
 
     // An interrupt is entered, and its cycles pass.
     pub fn enter(self, cause: Cause, image: &mut [u8]) -> Moved
-        ensures { λ r. ⌜ moved r (now (image .exit)) ≡ enteredOf cause (now (image .entry)) self ⌝ }
+        ensures { λ r. ⌜ moved r (memories (now (image .exit))) ≡ enteredOf cause (memories (now (image .entry))) self ⌝ }
     {
         let k = self.entry_cycles();
         let chip = self.chip
@@ -267,42 +279,48 @@ impl Machine {
         m.after(k)
     }
 
-    // An instruction whose opcode was read, and its cycles.
-    fn executed(self, i: Instruction, bus: Bus, image: &mut [u8]) -> Moved
-        ensures { λ r. ⌜ moved r (now (image .exit)) ≡ instructed i bus (now (image .entry)) self ⌝ }
+    // The byte that the opcode's fetch is to read.
+    fn opcode(self, image: &[u8]) -> u8
+        ensures { λ r. ⌜ r ≡ readOf (memories (now (image .entry))) (self .chip .cpu .pc) (self .chip .bus) .value ⌝ }
     {
-        let cpu = self.chip.cpu.with_pc(bits::plus(self.chip.cpu.pc, 1));
-        let fetched = Chip { cpu: cpu, bus: bus };
-        let chip = fetched.execute(i, image);
+        let pc = self.chip.cpu.pc;
+        if pc < 32 {
+            let f = self.chip.bus.read(image, pc);
+            return f.value;
+        }
+        bus::peek(image, pc)
+    }
+
+    // What stands at PC, with no effect on the machine.
+    pub fn look(self, image: &[u8]) -> Look
+        ensures { λ r. ⌜ r ≡ lookOf (memories (now (image .entry))) self ⌝ }
+    {
+        let decoded = opcodes::decode(self.opcode(image));
+        match decoded {
+            Decoded::Undefined => Look::Undefined,
+            Decoded::Defined(i) => Look::Runs(i),
+        }
+    }
+
+    // An instruction, and its cycles.
+    pub fn step(self, i: Instruction, image: &mut [u8]) -> Moved
+        ensures { λ r. ⌜ moved r (memories (now (image .exit))) ≡ stepOf i (memories (now (image .entry))) self ⌝ }
+    {
+        let chip = self.chip.execute(i, image);
         let m = Machine {
             chip: chip,
             irq1: self.irq1,
             nmi: self.nmi,
         };
-        m.after(i.cycles)
-    }
-
-    // One instruction, or none where its opcode is undefined.
-    pub fn step(self, image: &mut [u8]) -> Moved
-        ensures { λ r. ⌜ moved r (now (image .exit)) ≡ stepOf (now (image .entry)) self ⌝ }
-    {
-        let f = self.chip.bus.read(image, self.chip.cpu.pc);
-        let decoded = opcodes::decode(f.value);
-        match decoded {
-            Decoded::Undefined => Moved {
-                machine: self,
-                cycles: 0,
-            },
-            Decoded::Defined(i) => self.executed(i, f.next, image),
-        }
+        m.after(Cycles(i.cycles as u32))
     }
 
     // The cycles of a step pass.
-    fn after(self, k: u8) -> Moved
-        ensures { λ r. ⌜ r ≡ record { machine = passedOf k self; cycles = k } ⌝ }
+    fn after(self, k: Cycles) -> Moved
+        ensures { λ r. ⌜ r ≡ record { machine = passedOf (k .0) self; cycles = k } ⌝ }
     {
         Moved {
-            machine: self.pass(k as u32),
+            machine: self.pass(k),
             cycles: k,
         }
     }

@@ -1,8 +1,8 @@
 // The night program: IMAGE SESSION N R STATE OUTPUT. It runs a night on the files, prints a line for each slice and one for the
 // night, and puts the new files in the old ones' places only when all of them are written (docs/NIGHT.md).
-use night_arguments::Number;
 use machine::Machine;
 use machine::Power;
+use night_arguments::Number;
 use saved::Loaded;
 ghost use mathlib.Core.Path.{_≡_};
 ghost use lib.ListN.{length};
@@ -22,7 +22,7 @@ enum Begun {
 }
 
 fn refuse(number: u8) {
-    answering::refused(number).text(b"\n").print();
+    bench_answer::refused(number).text(b"\n").print();
 }
 
 // 1,048,576 zeros, for a session.
@@ -211,7 +211,7 @@ fn pass(
 ) {
     let mut spare = session_buffer();
     let mut output = io::large_buffer();
-    let night = nights::run_night(image, m, session, size, n, &mut output, &mut spare);
+    let night = night_slices::run_night(image, m, session, size, n, &mut output, &mut spare);
     let line = night.line();
     if !night.has_stopped() {
         line.print();

@@ -1,6 +1,6 @@
 // Refusals and stops of a night, and the edges of reading numbers and joining names. docs/NIGHT.md has the numbers.
-use night_arguments::Number;
 use machine::Power;
+use night_arguments::Number;
 use printing::Line;
 
 fn show_number(text: &[u8]) {
@@ -30,7 +30,7 @@ fn show_night(image: &mut [u8], session: &mut [u8], output: &mut [u8], spare: &m
     let size = session.len();
     let power = cabinet::power_on(&image[..], 65536);
     match power {
-        Power::On(m) => nights::run_night(image, m, session, size, 100, output, spare)
+        Power::On(m) => night_slices::run_night(image, m, session, size, 100, output, spare)
             .line()
             .print(),
         Power::WrongImage => Line::empty().text(b"no machine\n").print(),

@@ -6,7 +6,8 @@ use Rattle.bits.specs.Words.{high, low, paired, up, down}
 use Rattle.opcodes.specs.declared.Accumulator.{Accumulator}
 use Rattle.opcodes.specs.declared.Accumulator.the-variants.{A, B}
 use Rattle.opcodes.specs.declared.Internal.{Internal}
-use Rattle.opcodes.specs.declared.Internal.the-variants.{Nop, Lsrd, Asld, Tap, Tpa, Inx, Dex, Clv, Sev, Clc, Sec, Cli, Sei, Sba, Cba, Tab, Tba, Daa, Aba, Tsx, Ins, Des, Txs, Abx, Mul}
+use Rattle.opcodes.specs.declared.Internal.the-variants.{Nop, Lsrd, Asld, Tap, Tpa, Inx, Dex, Clv, Sev, Clc, Sec, Cli, Sei, Sba, Cba}
+use Rattle.opcodes.specs.declared.Internal.the-variants.{Tab, Tba, Daa, Aba, Tsx, Ins, Des, Txs, Abx, Mul}
 use Rattle.opcodes.specs.declared.Wide.{Wide}
 use Rattle.opcodes.specs.declared.Wide.the-variants.{Subd, Addd, Cpx, Ldd, Lds, Ldx}
 use Rattle.opcodes.specs.declared.WideStore.{WideStore}
@@ -39,6 +40,10 @@ withCodes c k = record { a = c .a; b = c .b; x = c .x; sp = c .sp; pc = c .pc; c
 
 abbrev pub withWaiting : Cpu → Bool → Cpu
 withWaiting c w = record { a = c .a; b = c .b; x = c .x; sp = c .sp; pc = c .pc; codes = c .codes; waiting = w }
+
+-- whether a cycle merely passes
+abbrev pub idles : Cpu → Bool
+idles c = c .waiting
 
 -- the double accumulator: A is its high byte and B its low one
 abbrev pub d : Cpu → ℕ

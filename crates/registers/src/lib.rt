@@ -13,7 +13,8 @@ use opcodes::Wide;
 use opcodes::WideStore;
 ghost use mathlib.Core.Path.{_≡_};
 ghost use Rattle.arithmetic.specs.Results.{indexedOf};
-ghost use Rattle.registers.specs.Cpu.{withA, withB, withX, withSp, withPc, withCodes, withWaiting, d, withD, accumulator, withAccumulator, resultIn, resultInD, withV, withC, withI, internalOf, wideOf, storedOf, offset};
+ghost use Rattle.registers.specs.Cpu.{withA, withB, withX, withSp, withPc, withCodes, withWaiting, idles, d, withD};
+ghost use Rattle.registers.specs.Cpu.{accumulator, withAccumulator, resultIn, resultInD, withV, withC, withI, internalOf, wideOf, storedOf, offset};
 
 pub struct Cpu {
     pub a: u8,
@@ -101,6 +102,13 @@ impl Cpu {
     {
         self.waiting = w;
         self
+    }
+
+    // Whether a cycle merely passes.
+    pub fn idles(self) -> bool
+        ensures { λ r. ⌜ r ≡ idles self ⌝ }
+    {
+        self.waiting
     }
 
     // The double accumulator.

@@ -1,8 +1,9 @@
-// Replays single instructions that were seen on an independent emulator, each against `Machine::step`.
+// Replays single instructions that were seen on an independent emulator, each against `Machine::look` and `Machine::step`.
 // Standard input has the cases: tools/vectors.py says how.
 use arithmetic::Codes;
 use bus::peek;
 use cpu::Chip;
+use machine::Look;
 use machine::Machine;
 use machine::Moved;
 use machine::Power;
@@ -28,9 +29,10 @@ const HEAD: usize = 21;
 
 const LONGEST: usize = 61;
 
-// What is not as it was seen. `Beside` is the byte before or after a cell.
+// What is not as it was seen. `Undefined` is an opcode that runs nothing, `Beside` the byte before or after a cell.
 enum Difference {
     Nothing,
+    Undefined,
     Pc,
     A,
     B,
@@ -166,7 +168,7 @@ fn compare_time(moved: Moved, case: &[u8]) -> Difference {
     if moved.machine.chip.cpu.waiting != (peek(case, WAITS) == 1) {
         return Difference::Waiting;
     }
-    if moved.cycles != cycles {
+    if moved.cycles.0 != cycles as u32 {
         return Difference::Cycles;
     }
     if moved.machine.chip.bus.timer.counter != cycles as u16 {
@@ -175,10 +177,8 @@ fn compare_time(moved: Moved, case: &[u8]) -> Difference {
     Difference::Nothing
 }
 
-// The first difference, and the image as it was before the case.
-fn replay(machine: Machine, case: &[u8], image: &mut [u8]) -> Difference {
-    place(case, image);
-    let moved = start(machine, case).step(image);
+// The first difference after the instruction, and the image as it was before the case.
+fn compare(moved: Moved, case: &[u8], image: &mut [u8]) -> Difference {
     if take_cells(case, image) {
         return Difference::Cell;
     }
@@ -191,6 +191,16 @@ fn replay(machine: Machine, case: &[u8], image: &mut [u8]) -> Difference {
         Difference::Nothing => compare_registers(cpu, case),
         _ => time,
     }
+}
+
+fn replay(machine: Machine, case: &[u8], image: &mut [u8]) -> Difference {
+    place(case, image);
+    let m = start(machine, case);
+    let Look::Runs(i) = m.look(image) else {
+        take_cells(case, image);
+        return Difference::Undefined;
+    };
+    compare(m.step(i, image), case, image)
 }
 
 impl Tally {
@@ -272,6 +282,7 @@ fn is_background(image: &[u8]) -> bool {
 fn name(difference: Difference) {
     match difference {
         Difference::Nothing => io::write_all(1, b"nothing"),
+        Difference::Undefined => io::write_all(1, b"undefined"),
         Difference::Pc => io::write_all(1, b"pc"),
         Difference::A => io::write_all(1, b"a"),
         Difference::B => io::write_all(1, b"b"),

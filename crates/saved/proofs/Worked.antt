@@ -7,7 +7,7 @@ use Rattle.arithmetic.specs.Codes.{codesByte, codesOf}
 use Rattle.ports.specs.Ports.{portsRanges, resetPorts}
 use Rattle.timer.specs.Timer.{timerRanges, resetTimer}
 use Rattle.serial.specs.Serial.{trcsOf, serialRanges, resetSerial}
-use Rattle.bus.specs.Access.{readOf}
+use Rattle.bus.specs.Access.{memories, readOf}
 use Rattle.bus.specs.Units.{resetBus, busRanges}
 use Rattle.cpu.specs.Act.{run, read, _>>=_}
 use Rattle.cpu.specs.Instructions.{read2}
@@ -18,7 +18,7 @@ use Rattle.saved.specs.Answers.{gives, standsOf, rangesIn, loadOf}
 
 -- power-on of an image whose bytes are 0, all memory writable
 abbrev pub powered : Machine
-powered = resetOf [] (cold 65536)
+powered = resetOf (memories []) (cold 65536)
 
 -- codes D0, IRQ1 high, port 1 pins FF, port 2 pins 1A with mode 2, compare FFFF, TRCS 20, $14 40, R 65,536; all else 0
 abbrev pub poweredBytes : List ℕ

@@ -5,7 +5,7 @@ use mathlib.Core.List.{List}
 use mathlib.Core.Path.{sym, ap, _∙_}
 use borrow.Author.Tests.{not-true, not-false, ltb-true, ltb-false}
 use Rattle.replies.specs.Replies.{toldCheck}
-use Rattle.boundary.specs.Boundary.{lent, terms}
+use Rattle.boundary.specs.World.{lent, terms}
 use Rattle.cabinet.proofs.Ends.{refuses-1, refuses-2, refuses-3, session-decides}
 use Rattle.cabinet.proofs.admit.Statement.{statement}
 use Rattle.cabinet.proofs.admit.Tie as tie

@@ -2,7 +2,7 @@
 use native.Mathlib.Omega.{arith}
 use borrow.Author.Needs.{needs}
 use mathlib.Core.Path.{sym, ap, _∙_}
-use Rattle.boundary.specs.Boundary.{lent, terms}
+use Rattle.boundary.specs.World.{lent, terms}
 use Rattle.cabinet.specs.Answers.{toldAdmission}
 use Rattle.cabinet.proofs.Ends.{start-fine, admitted-within, refusal-ends, run-ends}
 use Rattle.cabinet.proofs.end.Statement.{statement}

@@ -7,10 +7,10 @@ use Rattle.corners.proofs.run.Statement.{statement}
 use Rattle.corners.proofs.run.Tie as tie
 
 abbrev Inv-loop : tie.InvT-loop
-Inv-loop steps image₀ now₀ cycles₀ counter₀ image now cycles counter = length image ≡ length image₀
+Inv-loop steps image₀ ran₀ counter₀ image ran counter = length image ≡ length image₀
 
 abbrev μ-loop : tie.MeasureT-loop
-μ-loop steps image₀ now₀ cycles₀ counter₀ image now cycles counter = steps - counter
+μ-loop steps image₀ ran₀ counter₀ image ran counter = steps - counter
 
 pub run-spec : {M : Type 1} → statement M
 run-spec =
@@ -19,9 +19,7 @@ run-spec =
     Inv-loop
     μ-loop
     (λ c. search needs)  -- loop-holds
-    (λ c κs. search needs)  -- step-requires
-    (λ c. search needs)  -- cast-wrapping-add-u64
-    (λ c κs. search needs)  -- wrapping-add-u64-requires
+    (λ c κs. search needs)  -- further-requires
     (λ c. search needs)  -- add-counter
     (λ c. search needs)  -- loop-less
     (λ c. search needs)  -- loop-again

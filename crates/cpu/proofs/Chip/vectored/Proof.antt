@@ -1,7 +1,6 @@
 use borrow.Author.Needs.{needs}
 use Rattle.cpu.proofs.ActLaws.{after, ends}
 use Rattle.cpu.specs.Instructions.{vectored}
-use Rattle.cpu.specs.Instructions.{vectored}
 use Rattle.cpu.proofs.Chip.vectored.Statement.{statement}
 use Rattle.cpu.proofs.Chip.vectored.Tie as tie
 
@@ -15,4 +14,5 @@ vectored-spec =
     (λ c κs. search needs)  -- with-i-requires
     (λ c κs. search needs)  -- with-codes-requires
     (λ c κs. search needs)  -- with-waiting-requires
-    (λ c. after _ _ _ _ (c .before .before .before .before .before .read-word .ensures) (ends _ _ _ (rw (c .with-waiting .ensures, c .before .with-codes .ensures, c .before .before .with-i .ensures, c .before .before .before .with-pc .ensures)))))  -- returns
+    (λ c. after _ _ _ _ (c .before .before .before .before .before .read-word .ensures)
+        (ends _ _ _ (rw (c .with-waiting .ensures, c .before .with-codes .ensures, c .before .before .with-i .ensures, c .before .before .before .with-pc .ensures)))))  -- returns

@@ -1,0 +1,121 @@
+-- The bench program's line: it has at most 201 bytes, so that it is shown whole, and it is `refused 10` exactly where the input is
+-- bad. Assumes nothing.
+use Prim.Native.Nat.{ℕ, _%_, _≤_}
+use native.Mathlib.Omega.{arith}
+use mathlib.Core.Path.{_≡_, refl, sym, ap, _∙_}
+use mathlib.Core.Logic.{_↔_}
+use mathlib.Core.Bool.{Bool, true, false, cond}
+use mathlib.Core.List.{List, [], _∷_, _++_}
+use mathlib.Core.Option.{Option, none, some}
+use lib.ListN.{length, getD, replicate}
+use borrow.Author.Tests.{lt-ltb}
+use Rattle.asking.specs.Asking.{Given, gives, replies}
+use Rattle.power.specs.Power.{toldPower}
+use Rattle.replies.specs.Replies.{stops}
+use Rattle.machine.specs.declared.Machine.{Machine}
+use Rattle.machine.specs.declared.Power.{Power}
+use Rattle.machine.specs.declared.Power.the-variants as power
+use Rattle.machine.specs.Machine.{powerOnOf}
+use Rattle.boundary.specs.World.{lent, terms}
+use Rattle.cabinet.specs.Answers.{Answer, answerOf}
+use Rattle.cabinet.proofs.Ends.{reply-most}
+use Rattle.bench_input.specs.declared.Loaded.{Loaded}
+use Rattle.bench_input.specs.declared.Loaded.the-variants.{Bad, Run}
+use Rattle.bench_input.specs.Input.{isGood, loadedOf}
+use Rattle.bench_input.proofs.Laws.{loaded-bad, loaded-run}
+use Rattle.printing.specs.declared.Line.{Line}
+use Rattle.printing.specs.Printing.{ascii, emptyLine, putsOf, shown, digitOf, decimalFrom, decimalOf}
+use Rattle.printing.proofs.Shown.{shown-whole, Short, _then_, short, decimal-short}
+use Rattle.lines.specs.Lines.{refusedText, refusal}
+use Rattle.lines.proofs.Short.{counts-short, registers-short, refused-short}
+use Rattle.bench_answer.specs.Answer.{numbersOf, stopText, textOf, onPower, onLoaded, lineOf}
+
+-- how long each text can be
+stop-short : (a : Answer) → Short 200 (stopText a)
+unfolding stopText
+stop-short a =
+    (short (ascii "stop ") then decimal-short (a .reply .number)) then counts-short (numbersOf a) then registers-short (a .machine .chip .cpu)
+
+text-short : (a : Answer) → Short 200 (textOf a)
+unfolding textOf
+text-short a = by (stops (a .reply .number))
+  where
+    by : (b : Bool) → Short 200 (cond b (stopText a) (refusal (a .reply)))
+    by true = stop-short a
+    by false = refused-short (a .reply .number) (a .reply .named)
+
+power-short : (image session : List ℕ) (n : ℕ) (p : Given Machine) → Short 200 (onPower image session n p)
+unfolding onPower
+power-short image session n (replies k) = refused-short k none
+power-short image session n (gives m) = text-short (answerOf (terms session n) m (lent image (replicate 256 0)))
+
+loaded-short : (input : List ℕ) (l : Loaded) → Short 200 (onLoaded input l)
+unfolding onLoaded
+loaded-short input Bad = refused-short 10 none
+loaded-short input (Run n r start) = power-short _ _ n _
+
+-- "exactly (then a newline)": a line has at most 201 bytes
+pub line-short : (input : List ℕ) → length (lineOf input) ≤ 201
+line-short input = (loaded-short input (loadedOf input) then short (ascii "\n")) .most
+
+-- what `answer` returns shows the line, all of it
+pub line-shown : (input : List ℕ) (r : Line) → r ≡ putsOf emptyLine (lineOf input) → shown r ≡ lineOf input
+line-shown input r e = ap shown e ∙ shown-whole (lineOf input) (let h = line-short input in omega (arith, h))
+
+-- The line of reply 10 is no other reply's: it has a 0 after its 1, and begins as no stop does.
+abbrev IsTen : List ℕ → Type 0
+IsTen text = text ++ ascii "\n" ≡ ascii "refused 10\n"
+
+one-digit : (k : ℕ) → k ≤ 9 → decimalOf k ≡ digitOf (k % 10) ∷ []
+unfolding decimalFrom
+one-digit k h = rw (lt-ltb k 10 (omega (arith, h)))
+
+refused-other : (k : ℕ) (r : Option ℕ) → k ≤ 9 → IsTen (refusedText k r) → ⊥
+unfolding refusedText
+refused-other k none h e =
+    let z : _≡_ {A = ℕ} 10 48 =
+    sym (ap (λ (d : List ℕ). getD (ascii "refused " ++ d ++ ascii "\n") 9 0) (one-digit k h)) ∙ ap (λ (t : List ℕ). getD t 9 0) e in
+    let w : ⊥ = omega (arith, z) in w
+refused-other k (some r) h e =
+    let z : _≡_ {A = ℕ} 32 48 =
+    sym (ap (λ (d : List ℕ). getD (ascii "refused " ++ d ++ ascii " record " ++ decimalOf r ++ ascii "\n") 9 0) (one-digit k h))
+    ∙ ap (λ (t : List ℕ). getD t 9 0) e in
+    let w : ⊥ = omega (arith, z) in w
+
+stop-other : (a : Answer) → IsTen (stopText a) → ⊥
+unfolding stopText
+stop-other a e =
+    let z : _≡_ {A = ℕ} 115 114 = ap (λ (t : List ℕ). getD t 0 0) e in
+    let w : ⊥ = omega (arith, z) in w
+
+text-other : (a : Answer) → a .reply .number ≤ 9 → IsTen (textOf a) → ⊥
+unfolding textOf
+text-other a h = by (stops (a .reply .number))
+  where
+    by : (b : Bool) → IsTen (cond b (stopText a) (refusal (a .reply))) → ⊥
+    by true e = stop-other a e
+    by false e = refused-other (a .reply .number) (a .reply .named) h e
+
+power-other : (image session : List ℕ) (n : ℕ) (p : Power) → IsTen (onPower image session n (toldPower p)) → ⊥
+unfolding onPower
+power-other image session n power.WrongImage e = refused-other 1 none (omega arith) e
+power-other image session n power.WrongStart e = refused-other 2 none (omega arith) e
+power-other image session n (power.On m) e =
+    text-other (answerOf (terms session n) m (lent image (replicate 256 0))) (reply-most (terms session n) m (lent image (replicate 256 0))) e
+
+loaded-other : (input : List ℕ) (n r start : ℕ) → IsTen (onLoaded input (Run n r start)) → ⊥
+unfolding onLoaded
+loaded-other input n r start e = power-other _ _ n (powerOnOf _ r) e
+
+bad-ten : (input : List ℕ) → IsTen (onLoaded input Bad)
+unfolding onLoaded refusedText decimalFrom
+bad-ten input = refl
+
+-- reply 10: "the program's own input is bad"
+pub refused-10 : (input : List ℕ) → (lineOf input ≡ ascii "refused 10\n") ↔ (isGood input ≡ false)
+refused-10 input = (by (isGood input) refl, λ e. ap (λ (l : Loaded). onLoaded input l ++ ascii "\n") (sym (loaded-bad input [] e .0)) ∙ bad-ten input)
+  where
+    by : (b : Bool) → isGood input ≡ b → lineOf input ≡ ascii "refused 10\n" → isGood input ≡ false
+    by false e t = e
+    by true e t =
+        absurd (loaded-other input _ _ _ (sym (ap (λ (l : Loaded). onLoaded input l ++ ascii "\n") (loaded-run input [] e .0)) ∙ t))

@@ -1,0 +1,13 @@
+use borrow.Author.Needs.{needs}
+use Rattle.bus.proofs.Stores.{plain-read}
+use Rattle.machine.proofs.Machine.opcode.Statement.{statement}
+use Rattle.machine.proofs.Machine.opcode.Tie as tie
+
+pub opcode-spec : {M : Type 1} → statement M
+opcode-spec =
+    tie.close
+    (tie.spec
+    (λ c κs. search needs)  -- read-requires
+    (λ c. rw (c .read .ensures))  -- returns
+    (λ c κs. search needs)  -- peek-requires
+    (λ c. rw (plain-read _ _ _ (c .before .if1 .left)) (c .peek .ensures)))  -- returns-2

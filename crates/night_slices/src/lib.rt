@@ -1,0 +1,332 @@
+// A night: a long run of the leaping kind in slices, each with the rest of the session that the one before left.
+use cabinet::Leapt;
+use cabinet::Ran;
+use counts::Cycles;
+use counts::Records;
+use lines::Numbers;
+use machine::Machine;
+use printing::Line;
+use registers::Cpu;
+use replies::Reply;
+use rest::Rested;
+use std::num::wrapping_add_u64;
+ghost use mathlib.Core.Path.{_≡_};
+ghost use mathlib.Core.List.{[]};
+ghost use Prim.Native.Nat.{_-_, _+_, _^_, _≤_, _<_, min};
+ghost use lib.Dec.{eqb};
+ghost use lib.ListN.{length, take};
+ghost use Rattle.replies.specs.Replies.{told, toldReply, stops};
+ghost use Rattle.boundary.specs.World.{lent, terms};
+ghost use Rattle.printing.specs.Printing.{emptyLine, putsOf};
+ghost use Rattle.night_lines.specs.NightLines.{sliceText, endText};
+ghost use Rattle.night_slices.specs.Slices.{sliceCycles, keepingOf, kept, toldEnded, numbersOf, standing, beginning, nextOf};
+ghost use Rattle.night_slices.specs.Slices.{sliceOf, goesOn, nightOf, nightText};
+
+// How a slice ended: with the run's reply, or the session has fewer records than were used, or there is no room for the rest.
+pub enum Ended {
+    Ran(Reply),
+    TooFew,
+    NoRoom,
+}
+
+// The sums of the slices' counts.
+pub struct NightSlices(pub u64);
+
+pub struct NightCycles(pub u64);
+
+pub struct NightInstructions(pub u64);
+
+pub struct NightEntries(pub u64);
+
+pub struct NightRecords(pub u64);
+
+pub struct NightLeaps(pub u64);
+
+// A night between slices: `length` bytes of the session's buffer are its rest, `left` cycles are still to run, and the first `sent`
+// bytes of the output are filled.
+pub struct Night {
+    pub ended: Ended,
+    pub machine: Machine,
+    pub length: usize,
+    pub left: u32,
+    pub sent: usize,
+    pub slices: NightSlices,
+    pub cycles: NightCycles,
+    pub instructions: NightInstructions,
+    pub entries: NightEntries,
+    pub used: NightRecords,
+    pub leaps: NightLeaps,
+}
+
+// How a slice ended, and how many bytes the rest of its session has.
+struct Kept {
+    ended: Ended,
+    length: usize,
+}
+
+fn least(a: usize, b: usize) -> usize
+    ensures { λ r. ⌜ r ≡ min a b ⌝ }
+{
+    if a < b { a } else { b }
+}
+
+// The cycles of the next slice.
+pub fn slice_of(left: u32) -> u32
+    ensures { λ r. ⌜ r ≡ sliceCycles left ⌝ }
+{
+    if left < 1000000000 { left } else { 1000000000 }
+}
+
+// The cycles that are left after a slice, and 0 where that would be below 0.
+pub fn left_after(left: u32, cycles: Cycles) -> u32
+    ensures { λ r. ⌜ r ≡ left - cycles .0 ⌝ }
+{
+    if left < cycles.0 { 0 } else { left - cycles.0 }
+}
+
+// A slice's numbers.
+fn numbers(ran: Ran) -> Numbers
+    ensures { λ r. ⌜ r ≡ numbersOf ran ⌝ }
+{
+    Numbers {
+        cycles: ran.cycles.0 as u64,
+        instructions: ran.instructions.0 as u64,
+        entries: ran.entries.0 as u64,
+        used: ran.used.0 as u64,
+        sent: ran.sent.0 as u64,
+    }
+}
+
+// A slice's line.
+fn slice_line(number: u64, leapt: Leapt) -> Line
+    ensures { λ r. ⌜ r ≡ putsOf emptyLine (sliceText number (toldReply (leapt .ran .reply) .number) (numbersOf (leapt .ran)) (leapt .leaps .0)) ⌝ }
+{
+    let ran = leapt.ran;
+    let reply = ran.reply;
+    night_lines::slice_line(number, reply.number(), numbers(ran), leapt.leaps.0 as u64)
+}
+
+// A slice's line is printed, where its run was not refused.
+fn announce(number: u64, leapt: Leapt) {
+    let ran = leapt.ran;
+    let reply = ran.reply;
+    if reply.is_stop() {
+        slice_line(number, leapt).print();
+    }
+}
+
+// The rest of the session takes the session's place, where the run was not refused.
+fn keep(
+    session: &mut [u8],
+    size: usize,
+    reply: Reply,
+    used: Records,
+    cycles: Cycles,
+    spare: &mut [u8],
+) -> Kept
+    requires { ⌜ (size ≤ length (now session)) × (size ≤ length (now spare)) ⌝ }
+    ensures { λ r. ⌜ (kept r (now (session .exit)) ≡ keepingOf (toldReply reply) (take size (now (session .entry))) (used .0) (cycles .0))
+        × (r .length ≤ size) ⌝ }
+{
+    if !reply.is_stop() {
+        return Kept {
+            ended: Ended::Ran(reply),
+            length: size,
+        };
+    }
+    let rested = rest::rest(&session[..size], used, cycles, spare);
+    match rested {
+        Rested::Written(n) => {
+            bytes::copy(&spare[..n], session);
+            Kept {
+                ended: Ended::Ran(reply),
+                length: n,
+            }
+        }
+        Rested::Bad(fault) => Kept {
+            ended: Ended::Ran(replies::refusal(fault)),
+            length: size,
+        },
+        Rested::TooFew => Kept {
+            ended: Ended::TooFew,
+            length: size,
+        },
+        Rested::NoRoom => Kept {
+            ended: Ended::NoRoom,
+            length: size,
+        },
+    }
+}
+
+fn stops_with(ended: Ended) -> bool
+    ensures { λ r. ⌜ r ≡ stops (toldEnded ended .number) ⌝ }
+{
+    match ended {
+        Ended::TooFew => false,
+        Ended::NoRoom => false,
+        Ended::Ran(reply) => reply.is_stop(),
+    }
+}
+
+fn at_limit(ended: Ended) -> bool
+    ensures { λ r. ⌜ r ≡ eqb (toldEnded ended .number) 0 ⌝ }
+{
+    match ended {
+        Ended::TooFew => false,
+        Ended::NoRoom => false,
+        Ended::Ran(reply) => reply.number() == 0,
+    }
+}
+
+// What a night that ended so tells.
+fn closing(ended: Ended, slices: u64, n: Numbers, leaps: u64, c: Cpu) -> Line
+    ensures { λ r. ⌜ r ≡ putsOf emptyLine (endText (toldEnded ended) slices n leaps c) ⌝ }
+{
+    match ended {
+        Ended::TooFew => lines::refused(30),
+        Ended::NoRoom => lines::refused(31),
+        Ended::Ran(reply) => night_lines::end_line(reply, slices, n, leaps, c),
+    }
+}
+
+impl Night {
+    // A night at its start.
+    fn start(ended: Ended, m: Machine, size: usize, n: u32) -> Night
+        ensures { λ r. ⌜ r ≡ beginning ended m size n ⌝ }
+    {
+        Night {
+            ended: ended,
+            machine: m,
+            length: size,
+            left: n,
+            sent: 0,
+            slices: NightSlices(0),
+            cycles: NightCycles(0),
+            instructions: NightInstructions(0),
+            entries: NightEntries(0),
+            used: NightRecords(0),
+            leaps: NightLeaps(0),
+        }
+    }
+
+    // The night after a slice.
+    fn after(self, leapt: Leapt, kept: Kept) -> Night
+        requires { ⌜ self .sent + leapt .ran .sent .0 < 2 ^ 64 ⌝ }
+        ensures { λ r. ⌜ r ≡ nextOf self leapt kept ⌝ }
+    {
+        let ran = leapt.ran;
+        let ended = kept.ended;
+        let machine = ran.machine;
+        Night {
+            ended: ended,
+            machine: machine,
+            length: kept.length,
+            left: left_after(self.left, ran.cycles),
+            sent: self.sent + ran.sent.0,
+            slices: NightSlices(wrapping_add_u64(self.slices.0, 1)),
+            cycles: NightCycles(wrapping_add_u64(self.cycles.0, ran.cycles.0 as u64)),
+            instructions: NightInstructions(wrapping_add_u64(
+                self.instructions.0,
+                ran.instructions.0 as u64,
+            )),
+            entries: NightEntries(wrapping_add_u64(self.entries.0, ran.entries.0 as u64)),
+            used: NightRecords(wrapping_add_u64(self.used.0, ran.used.0 as u64)),
+            leaps: NightLeaps(wrapping_add_u64(self.leaps.0, leapt.leaps.0 as u64)),
+        }
+    }
+
+    // Whether another slice follows.
+    fn goes_on(self) -> bool
+        ensures { λ r. ⌜ r ≡ goesOn (standing self (lent [] []) []) ⌝ }
+    {
+        let ended = self.ended;
+        at_limit(ended) & (self.left > 0)
+    }
+
+    // Whether the night ran and stopped, with 0, 8 or 9: it was not refused.
+    pub fn has_stopped(self) -> bool
+        ensures { λ r. ⌜ r ≡ stops (toldEnded (self .ended) .number) ⌝ }
+    {
+        let ended = self.ended;
+        stops_with(ended)
+    }
+
+    // The night's line.
+    pub fn line(self) -> Line
+        ensures { λ r. ⌜ r ≡ putsOf emptyLine (nightText (standing self (lent [] []) [])) ⌝ }
+    {
+        let n = Numbers {
+            cycles: self.cycles.0,
+            instructions: self.instructions.0,
+            entries: self.entries.0,
+            used: self.used.0,
+            sent: self.sent as u64,
+        };
+        let ended = self.ended;
+        closing(
+            ended,
+            self.slices.0,
+            n,
+            self.leaps.0,
+            self.machine.chip.cpu,
+        )
+            .text(b"\n")
+    }
+}
+
+// One slice. Its line is printed.
+fn slice(
+    image: &mut [u8],
+    session: &mut [u8],
+    output: &mut [u8],
+    spare: &mut [u8],
+    night: Night,
+) -> Night
+    requires { ⌜ (night .length ≤ length (now session)) × (night .length ≤ length (now spare)) × (night .sent ≤ length (now output)) ⌝ }
+    ensures { λ r. ⌜ (standing r (lent (now (image .exit)) (now (output .exit))) (now (session .exit))
+        ≡ sliceOf (standing night (lent (now (image .entry)) (now (output .entry))) (now (session .entry))))
+        × (r .length ≤ night .length) × (r .sent ≤ length (now (output .entry))) ⌝ }
+{
+    let size = night.length;
+    let sent = night.sent;
+    let m = night.machine;
+    let leapt = cabinet::run_leaping(
+        image,
+        m,
+        &session[..size],
+        slice_of(night.left),
+        &mut output[sent..],
+    );
+    announce(wrapping_add_u64(night.slices.0, 1), leapt);
+    let ran = leapt.ran;
+    let reply = ran.reply;
+    let kept = keep(session, size, reply, ran.used, ran.cycles, spare);
+    night.after(leapt, kept)
+}
+
+// A night of `n` cycles: the first `size` bytes of `session` are its session, and are its rest afterwards. Each slice's line is
+// printed.
+pub fn run_night(
+    image: &mut [u8],
+    m: Machine,
+    session: &mut [u8],
+    size: usize,
+    n: u32,
+    output: &mut [u8],
+    spare: &mut [u8],
+) -> Night
+    ensures { λ r. ⌜ standing r (lent (now (image .exit)) (now (output .exit))) (now (session .exit))
+        ≡ nightOf (terms (take size (now (session .entry))) n) m (lent (now (image .entry)) (now (output .entry))) (length (now (spare .entry))) ⌝ }
+{
+    let size = least(size, session.len());
+    if spare.len() < size {
+        return Night::start(Ended::NoRoom, m, size, n);
+    }
+    let mut night = Night::start(Ended::Ran(Reply::Limit), m, size, n);
+    loop {
+        night = slice(image, session, output, spare, night);
+        if !night.goes_on() {
+            return night;
+        }
+    }
+}
