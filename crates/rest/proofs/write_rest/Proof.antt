@@ -8,7 +8,8 @@ use Rattle.rest.proofs.write_rest.Statement.{statement}
 use Rattle.rest.proofs.write_rest.Tie as tie
 
 -- where the unused records begin
-there : (c : tie.After-skipped) → some (c .skipped .given .0 .0) ≡ skipOf (c .before .before .before .before .before .args .session .now) (c .before .before .before .before .before .args .used)
+there : (c : tie.After-skipped) → let a = c .before .before .before .before .before .args in
+    some (c .skipped .given .0 .0) ≡ skipOf (a .session .now) (a .used .0)
 there c = sym (ap skipped (c .skipped .given .1)) ∙ c .before .before .skip .ensures
 
 pub write-rest-spec : {M : Type 1} → statement M

@@ -1,0 +1,190 @@
+-- Runs compose: after a run of N₁ that stopped with 0, the run of N less its cycles, on what it left, with the rest of the session and
+-- the room that is left, ends as the one run of N does, in all but the leaps; a wait across the cut may count twice. Assumes nothing.
+use Prim.Native.Nat.{ℕ, _+_, _-_, _≤_}
+use native.Mathlib.Omega.{arith}
+use mathlib.Core.List.{List, _++_}
+use mathlib.Core.Bool.{Bool}
+use mathlib.Core.Option.{none}
+use mathlib.Core.Path.{_≡_, refl, sym, ap, subst, _∙_}
+use lib.ListN.{length, take, drop}
+use lib.Seq.{take-append-seam}
+use Rattle.machine.specs.declared.Machine.{Machine}
+use Rattle.machine.proofs.Ranges.{ranges-say, say-ranges}
+use Rattle.boundary.specs.declared.Stop.{Stop}
+use Rattle.boundary.specs.declared.Stop.the-variants.{Limit, Undefined, Full}
+use Rattle.boundary.specs.Boundary.{World, runOf}
+use Rattle.boundary.specs.Start.{startWorld, ranOf}
+use Rattle.boundary.proofs.Kept.{image-length}
+use Rattle.boundary.proofs.Output.{filled-part}
+use Rattle.boundary.proofs.InRanges.{run-ranges}
+use Rattle.cabinet.specs.Replies.{Told, told, toldStop}
+use Rattle.cabinet.specs.declared.Ran.{Ran}
+use Rattle.cabinet.specs.Answers.{End, endAt, endOf, Answer, answerAt, answered, answerOf, leapsOf}
+use Rattle.cabinet.proofs.Exactly.{Admitted, admitted-end, reply-0}
+use Rattle.cabinet.proofs.Settled.{Single}
+use Rattle.rest.specs.Rest.{restOf}
+use Rattle.composing.specs.Joined.{joined}
+use Rattle.rest.specs.Answers.{wrote, restAnswer, restBuffer}
+use Rattle.rest.proofs.Exactly.{rest-written}
+use Rattle.composing.proofs.Raised.{raised, apart-most}
+use Rattle.composing.proofs.Second.{pastOf, secondOf, restAfter, used-within, after-sound, after-short, runs-raise}
+
+-- the stop that tells 0
+limit-told : (k : Stop) → toldStop k ≡ told 0 none → k ≡ Limit
+limit-told Limit e = refl
+limit-told Undefined e = let z : _≡_ {A = ℕ} 8 0 = ap (λ (t : Told). t .number) e in absurd (let w : ⊥ = omega arith in w)
+limit-told Full e = let z : _≡_ {A = ℕ} 9 0 = ap (λ (t : Told). t .number) e in absurd (let w : ⊥ = omega arith in w)
+
+-- a world with what the first run had done, and the two answers as one
+joins : (t t₁ : Told) (w u v : World) (leaps : ℕ) (inside : Bool) → w ≡ raised (pastOf u) v leaps inside
+    → length (take (u .state .sent .0) (u .output)) ≡ u .state .sent .0
+    → answerAt (endAt t w) ≡ joined (answerAt (endAt t₁ u)) (answerAt (endAt t v))
+joins t t₁ w u v leaps inside e l =
+    let x = u .state in
+    let y = v .state in
+    let joint : answerAt (endAt t (raised (pastOf u) v leaps inside)) ≡ joined (answerAt (endAt t₁ u)) (answerAt (endAt t v)) =
+    λ k. record {
+      reply = t;
+      machine = y .machine;
+      cycles = x .cycles .0 + y .cycles .0;
+      instructions = x .instructions .0 + y .instructions .0;
+      entries = x .entries .0 + y .entries .0;
+      used = x .used .0 + y .used .0;
+      sent = l k + y .sent .0;
+      image = v .image;
+      output = take (x .sent .0) (u .output) ++ v .output;
+    } in
+    ap (λ (z : World). answerAt (endAt t z)) e ∙ joint
+
+module _ (image : List ℕ) (m : Machine) (session : List ℕ) (n₁ n : ℕ) (output : List ℕ) where
+  -- what a second run gets from how the first ended: its image and machine, the rest of the session, what is left of N, and the room
+  -- that is left
+  abbrev again : End → End
+  again x =
+      let w = x .world in
+      let s = w .state in
+      endOf (w .image) (s .machine) (restOf session (s .used .0) (s .cycles .0)) (n - s .cycles .0) (drop (s .sent .0) (w .output))
+
+  abbrev here : End
+  here = let e = ranOf session n₁ m image output in endAt (toldStop (e .stop)) (e .world)
+
+  abbrev whole : End
+  whole = let e = ranOf session n m image output in endAt (toldStop (e .stop)) (e .world)
+
+  abbrev left : End
+  left =
+      let w = ranOf session n₁ m image output .world in
+      let e = runOf (restAfter session m image output n₁) (n - w .state .cycles .0) (secondOf w) in
+      endAt (toldStop (e .stop)) (e .world)
+
+  module _ (h : Admitted image m session n₁ output) (l : n₁ ≤ n) (b : n ≤ 1000000000) where
+    whole-end : endOf image m session n output ≡ whole
+    whole-end =
+        admitted-end image m session n output
+        (record { image-long = h .0 .image-long; in-ranges = h .0 .in-ranges; within = b }, h .1)
+
+    -- the second run is not refused
+    left-end : again here ≡ left
+    left-end =
+        let w = ranOf session n₁ m image output .world in
+        admitted-end (w .image) (w .state .machine) (restAfter session m image output n₁) (n - w .state .cycles .0) (drop (w .state .sent .0) (w .output)) (
+          record {
+            image-long = image-length session n₁ (startWorld m image output) ∙ h .0 .image-long;
+            in-ranges = ranges-say _ (run-ranges session n₁ m image output (h .1) (say-ranges (m .chip .bus) (h .0 .in-ranges)));
+            within = omega arith;
+          },
+          after-sound session m image output n₁ (h .1),
+        )
+
+    module _ (stopped : ranOf session n₁ m image output .stop ≡ Limit) where
+      joined-here : answerAt whole ≡ joined (answerAt here) (answerAt left)
+      joined-here =
+          let w = ranOf session n₁ m image output .world in
+          let r = runs-raise session m image output n₁ (h .1) n l stopped in
+          ap (λ (k : Stop). answerAt (endAt (toldStop k) (whole .world))) (r .0)
+          ∙ joins (left .reply) (here .reply) (whole .world) w (left .world) (r .1 .leaps) (r .1 .inside) (r .1 .same) (filled-part session n₁ m image output .2)
+
+      leaps-here : let k = here .world .state .leaps .0 + left .world .state .leaps .0 in
+          (whole .world .state .leaps .0 ≤ k) × (k ≤ whole .world .state .leaps .0 + 1)
+      leaps-here =
+          let r = runs-raise session m image output n₁ (h .1) n l stopped .1 in
+          let e = ap (λ (x : World). x .state .leaps .0) (r .same) in
+          let low = r .apart .low in
+          let most = apart-most (r .apart) in
+          (omega (arith, e, low), omega (arith, e, most))
+
+  -- the first run's answer, and the second's, which got what the first left
+  abbrev pub firstAnswer : Answer
+  firstAnswer = answerOf image m session n₁ output
+
+  abbrev pub secondAnswer : Answer
+  secondAnswer =
+      let a = firstAnswer in
+      answerOf (a .image) (a .machine) (restOf session (a .used) (a .cycles)) (n - a .cycles) (drop (a .sent) (a .output))
+
+  abbrev pub firstLeaps : ℕ
+  firstLeaps = leapsOf image m session n₁ output
+
+  abbrev pub secondLeaps : ℕ
+  secondLeaps =
+      let a = firstAnswer in
+      leapsOf (a .image) (a .machine) (restOf session (a .used) (a .cycles)) (n - a .cycles) (drop (a .sent) (a .output))
+
+  module _ (e : firstAnswer .reply ≡ told 0 none) where
+    admitted : Admitted image m session n₁ output
+    admitted = reply-0 image m session n₁ output .0 e .0
+
+    -- the call `rest` gives the second run its session: it refuses nothing but a buffer that is too short, and one as long as the session
+    -- never is
+    abbrev Fits : List ℕ → ℕ → ℕ → Type 0
+    Fits buffer used cycles =
+        let r = restOf session used cycles in
+        (length r ≤ length session)
+        × (length r ≤ length buffer
+        → (restAnswer session used cycles buffer ≡ wrote (length r)) × (take (length r) (restBuffer session used cycles buffer) ≡ r))
+
+    pub rest-given : (buffer : List ℕ) → Fits buffer (firstAnswer .used) (firstAnswer .cycles)
+    rest-given buffer =
+        subst (λ (x : End). Fits buffer (x .world .state .used .0) (x .world .state .cycles .0)) (sym (admitted-end image m session n₁ output admitted)) (
+          after-short session m image output n₁ (admitted .1),
+          (λ l.
+              let r = restAfter session m image output n₁ in
+              let w = rest-written session _ _ buffer (admitted .1) (used-within session m image output n₁ (admitted .1)) l in
+              (w .0, ap (take (length r)) (w .1) ∙ take-append-seam r (drop (length r) buffer))),
+        )
+
+  module _ (l : n₁ ≤ n) (b : n ≤ 1000000000) (e : firstAnswer .reply ≡ told 0 none) where
+    stopped : ranOf session n₁ m image output .stop ≡ Limit
+    stopped = limit-told (ranOf session n₁ m image output .stop) (ap (λ (x : End). x .reply) (sym (admitted-end image m session n₁ output (admitted e))) ∙ e)
+
+    -- the two answers, joined, are the one run's
+    pub compose : answerOf image m session n output ≡ joined firstAnswer secondAnswer
+    compose =
+        subst (λ (x : End). answerOf image m session n output ≡ joined (answerAt x) (answerAt (again x))) (sym (admitted-end image m session n₁ output (admitted e)))
+        (ap answerAt (whole-end (admitted e) l b)
+        ∙ joined-here (admitted e) l b stopped
+        ∙ ap (λ (x : End). joined (answerAt here) (answerAt x)) (sym (left-end (admitted e) l b)))
+
+    -- and so are their leaps, but that a wait across the cut may count twice
+    pub compose-leaps : let leaps = leapsOf image m session n output in
+        (leaps ≤ firstLeaps + secondLeaps) × (firstLeaps + secondLeaps ≤ leaps + 1)
+    compose-leaps =
+        subst
+        (λ (x : End). let k = x .world .state .leaps .0 + again x .world .state .leaps .0 in let leaps = leapsOf image m session n output in (leaps ≤ k) × (k ≤ leaps + 1))
+        (sym (admitted-end image m session n₁ output (admitted e)))
+        (let p = ap (λ (x : End). x .world .state .leaps .0) (whole-end (admitted e) l b) in
+        let q = ap (λ (x : End). x .world .state .leaps .0) (left-end (admitted e) l b) in
+        let r = leaps-here (admitted e) l b stopped in
+        (omega (arith, p, q, r .0), omega (arith, p, q, r .1)))
+
+    -- the same of what the calls return: a run's report, with the image and the output that it leaves
+    pub calls-compose : (r₁ r₂ r : Ran) (i₁ o₁ i₂ o₂ i o : List ℕ)
+        → Single image m session n₁ output r₁ i₁ o₁
+        → Single i₁ (r₁ .machine) (restOf session (r₁ .used .0) (r₁ .cycles .0)) (n - r₁ .cycles .0) (drop (r₁ .sent .0) o₁) r₂ i₂ o₂
+        → Single image m session n output r i o
+        → answered r i o ≡ joined (answered r₁ i₁ o₁) (answered r₂ i₂ o₂)
+    calls-compose r₁ r₂ r i₁ o₁ i₂ o₂ i o p q u =
+        subst
+        (λ (a : Answer). answered r₂ i₂ o₂ ≡ answerOf (a .image) (a .machine) (restOf session (a .used) (a .cycles)) (n - a .cycles) (drop (a .sent) (a .output))
+        → answered r i o ≡ joined a (answered r₂ i₂ o₂))
+        (sym p) (λ v. u ∙ compose ∙ ap (joined firstAnswer) (sym v)) q
