@@ -1,10 +1,9 @@
 -- Where a run starts: a machine, the session from its front, all counts 0, and no waiting cycle before.
-use Prim.Native.Nat.{ℕ}
 use mathlib.Core.Bool.{false}
-use mathlib.Core.List.{List}
 use Rattle.machine.specs.declared.Machine.{Machine}
 use Rattle.boundary.specs.declared.State.{State}
-use Rattle.boundary.specs.Boundary.{World, Ended, worldOf, runOf}
+use Rattle.boundary.specs.World.{Lent, Terms, World, worldOf, Ended}
+use Rattle.boundary.specs.Boundary.{runOf}
 
 abbrev pub startOf : Machine → State
 startOf m =
@@ -20,9 +19,9 @@ startOf m =
       inside = false;
     }
 
-abbrev pub startWorld : Machine → List ℕ → List ℕ → World
-startWorld m image output = worldOf (startOf m) image output
+abbrev pub startWorld : Machine → Lent → World
+startWorld m l = worldOf (startOf m) l
 
--- the run of a machine on an image, with a session, a limit N and an output that was lent
-abbrev pub ranOf : List ℕ → ℕ → Machine → List ℕ → List ℕ → Ended
-ranOf session n m image output = runOf session n (startWorld m image output)
+-- the run of a machine on its terms, with what was lent
+abbrev pub ranOf : Terms → Machine → Lent → Ended
+ranOf t m l = runOf t (startWorld m l)

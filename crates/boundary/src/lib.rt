@@ -1,27 +1,24 @@
 // One boundary of a run: records, sending, interrupt, waiting cycle or instruction, with the counts.
+use counts::Cycles;
+use counts::Entries;
+use counts::Instructions;
+use counts::Leaps;
+use counts::Records;
+use counts::Sent;
 use machine::Cause;
+use machine::Look;
 use machine::Machine;
 use machine::Pending;
 ghost use mathlib.Core.Path.{_≡_};
 ghost use mathlib.Core.List.{List};
 ghost use Prim.Native.Nat.{ℕ, _+_, _<_, _≤_, _^_};
 ghost use lib.ListN.{length};
-ghost use Rattle.boundary.specs.Boundary.{worldOf, movedOf, takenOf, recordsOf, sentState, sentWorld, waitedState, enteredWorld, executedOf, actOf, sendOf, boundaryOf, turned};
-ghost use Rattle.boundary.specs.Counts.{Fine};
-ghost use Rattle.machine.specs.Steps.{stepOf};
-
-// A count each, so that one cannot be taken for another.
-pub struct Cycles(pub u32);
-
-pub struct Instructions(pub u32);
-
-pub struct Entries(pub u32);
-
-pub struct Records(pub usize);
-
-pub struct Sent(pub usize);
-
-pub struct Leaps(pub u32);
+ghost use Rattle.boundary.specs.World.{lent, terms, worldOf, grownTo};
+ghost use Rattle.boundary.specs.Boundary.{recordTaken, recordsOf, sentState, waitedState, enteredWorld};
+ghost use Rattle.boundary.specs.Boundary.{executedOf, actOf, sendOf, boundaryOf, turned};
+ghost use Rattle.boundary.specs.Counts.{Fine, Ready, Fits};
+ghost use Rattle.machine.specs.Steps.{lookOf};
+ghost use Rattle.bus.specs.Access.{memories};
 
 // A run's state: `place` is where the first unused record stands, `inside` tells that the boundary before was a waiting cycle.
 pub struct State {
@@ -34,6 +31,14 @@ pub struct State {
     pub sent: Sent,
     pub leaps: Leaps,
     pub inside: bool,
+}
+
+// How far the counts of a run have grown.
+pub struct Grown {
+    pub cycles: Cycles,
+    pub instructions: Instructions,
+    pub entries: Entries,
+    pub leaps: Leaps,
 }
 
 pub enum Stop {
@@ -54,22 +59,14 @@ pub struct Turned {
 
 impl State {
     // The machine is m, and the counts have grown.
-    pub fn moved(
-        self,
-        m: Machine,
-        cycles: u32,
-        instructions: u32,
-        entries: u32,
-        leaps: u32,
-        inside: bool,
-    ) -> State
-        requires { ⌜ (self .cycles .0 + cycles < 2 ^ 32) × (self .instructions .0 + instructions < 2 ^ 32) × (self .entries .0 + entries < 2 ^ 32) × (self .leaps .0 + leaps < 2 ^ 32) ⌝ }
-        ensures { λ r. ⌜ r ≡ movedOf self m cycles instructions entries leaps inside ⌝ }
+    pub fn moved(self, m: Machine, by: Grown, inside: bool) -> State
+        requires { ⌜ Fits self by ⌝ }
+        ensures { λ r. ⌜ r ≡ grownTo self m by inside ⌝ }
     {
-        let cycles = Cycles(self.cycles.0 + cycles);
-        let instructions = Instructions(self.instructions.0 + instructions);
-        let entries = Entries(self.entries.0 + entries);
-        let leaps = Leaps(self.leaps.0 + leaps);
+        let cycles = Cycles(self.cycles.0 + by.cycles.0);
+        let instructions = Instructions(self.instructions.0 + by.instructions.0);
+        let entries = Entries(self.entries.0 + by.entries.0);
+        let leaps = Leaps(self.leaps.0 + by.leaps.0);
         let used = self.used;
         let sent = self.sent;
         State {
@@ -88,7 +85,7 @@ impl State {
     // The record at its place is applied.
     fn take(mut self, session: &[u8], image: &[u8]) -> State
         requires { ⌜ (self .place < length (now session)) × (self .used .0 ≤ self .place) ⌝ }
-        ensures { λ r. ⌜ r ≡ takenOf (now (session .entry)) (now (image .entry)) self ⌝ }
+        ensures { λ r. ⌜ r ≡ recordTaken (now (session .entry)) (memories (now (image .entry))) self ⌝ }
     {
         let at = self.place;
         let m = self.machine.apply(session::event_at(session, at), image);
@@ -103,10 +100,10 @@ impl State {
     // Step 2.
     fn apply_records(self, session: &[u8], image: &[u8]) -> State
         requires { ⌜ self .used .0 ≤ self .place ⌝ }
-        ensures { λ r. ⌜ r ≡ recordsOf (now (session .entry)) (now (image .entry)) self ⌝ }
+        ensures { λ r. ⌜ r ≡ recordsOf (now (session .entry)) (memories (now (image .entry))) self ⌝ }
     {
         let mut s = self;
-        while session::is_due(session, s.cycles.0, s.place) {
+        while session::is_due(session, s.cycles, s.place) {
             s = s.take(session, image);
         }
         s
@@ -127,47 +124,69 @@ impl State {
 
     // Step 4.
     fn enter(self, cause: Cause, image: &mut [u8]) -> State
-        requires { ⌜ Fine self × (self .cycles .0 < 1000000000) ⌝ }
-        ensures { λ r. ⌜ ((o : List ℕ) → worldOf r (now (image .exit)) o ≡ enteredWorld cause (worldOf self (now (image .entry)) o)) ⌝ }
+        requires { ⌜ Ready self ⌝ }
+        ensures { λ r. ⌜ ((o : List ℕ) → worldOf r (lent (now (image .exit)) o) ≡ enteredWorld cause (worldOf self (lent (now (image .entry)) o))) ⌝ }
     {
         let e = self.machine.enter(cause, image);
-        self.moved(e.machine, e.cycles as u32, 0, 1, 0, false)
+        let cycles = e.cycles;
+        let by = Grown {
+            cycles: cycles,
+            instructions: Instructions(0),
+            entries: Entries(1),
+            leaps: Leaps(0),
+        };
+        self.moved(e.machine, by, false)
     }
 
     // Step 5.
     fn wait(self) -> State
-        requires { ⌜ Fine self × (self .cycles .0 < 1000000000) ⌝ }
+        requires { ⌜ Ready self ⌝ }
         ensures { λ r. ⌜ r ≡ waitedState self ⌝ }
     {
-        let m = self.machine.pass(1);
-        if self.inside {
-            return self.moved(m, 1, 0, 0, 0, true);
-        }
-        self.moved(m, 1, 0, 0, 1, true)
+        let m = self.machine.pass(Cycles(1));
+        let leaps = if self.inside { 0 } else { 1 };
+        let by = Grown {
+            cycles: Cycles(1),
+            instructions: Instructions(0),
+            entries: Entries(0),
+            leaps: Leaps(leaps),
+        };
+        self.moved(m, by, true)
     }
 
     // Step 6.
     fn step(self, image: &mut [u8]) -> Turned
-        requires { ⌜ Fine self × (self .cycles .0 < 1000000000) ⌝ }
-        ensures { λ r. ⌜ ((o : List ℕ) → turned r (now (image .exit)) o ≡ executedOf (stepOf (now (image .entry)) (self .machine)) (worldOf self (now (image .entry)) o)) ⌝ }
+        requires { ⌜ Ready self ⌝ }
+        ensures { λ r. ⌜ ((o : List ℕ) → turned r (lent (now (image .exit)) o)
+            ≡ executedOf (lookOf (memories (now (image .entry))) (self .machine)) (worldOf self (lent (now (image .entry)) o))) ⌝ }
     {
-        let e = self.machine.step(image);
-        if e.cycles == 0 {
-            return Turned {
+        let look = self.machine.look(image);
+        match look {
+            Look::Undefined => Turned {
                 state: self,
                 progress: Progress::Stopped(Stop::Undefined),
-            };
-        }
-        Turned {
-            state: self.moved(e.machine, e.cycles as u32, 1, 0, 0, false),
-            progress: Progress::Going,
+            },
+            Look::Runs(i) => {
+                let e = self.machine.step(i, image);
+                let cycles = e.cycles;
+                let by = Grown {
+                    cycles: cycles,
+                    instructions: Instructions(1),
+                    entries: Entries(0),
+                    leaps: Leaps(0),
+                };
+                Turned {
+                    state: self.moved(e.machine, by, false),
+                    progress: Progress::Going,
+                }
+            }
         }
     }
 
     // Steps 4 to 6.
     fn act(self, image: &mut [u8]) -> Turned
-        requires { ⌜ Fine self × (self .cycles .0 < 1000000000) ⌝ }
-        ensures { λ r. ⌜ ((o : List ℕ) → turned r (now (image .exit)) o ≡ actOf (worldOf self (now (image .entry)) o)) ⌝ }
+        requires { ⌜ Ready self ⌝ }
+        ensures { λ r. ⌜ ((o : List ℕ) → turned r (lent (now (image .exit)) o) ≡ actOf (worldOf self (lent (now (image .entry)) o))) ⌝ }
     {
         let p = self.machine.pending();
         match p {
@@ -176,7 +195,7 @@ impl State {
                 progress: Progress::Going,
             },
             Pending::Nothing => {
-                if self.machine.chip.cpu.waiting {
+                if self.machine.chip.cpu.idles() {
                     return Turned {
                         state: self.wait(),
                         progress: Progress::Going,
@@ -189,8 +208,9 @@ impl State {
 
     // Steps 3 to 6.
     fn send(self, image: &mut [u8], output: &mut [u8]) -> Turned
-        requires { ⌜ Fine self × (self .cycles .0 < 1000000000) ⌝ }
-        ensures { λ r. ⌜ turned r (now (image .exit)) (now (output .exit)) ≡ sendOf (worldOf self (now (image .entry)) (now (output .entry))) ⌝ }
+        requires { ⌜ Ready self ⌝ }
+        ensures { λ r. ⌜ turned r (lent (now (image .exit)) (now (output .exit)))
+            ≡ sendOf (worldOf self (lent (now (image .entry)) (now (output .entry)))) ⌝ }
     {
         if self.machine.chip.bus.serial.wants_to_send() {
             let at = self.sent.0;
@@ -209,7 +229,8 @@ impl State {
     // One boundary.
     pub fn boundary(self, session: &[u8], n: u32, image: &mut [u8], output: &mut [u8]) -> Turned
         requires { ⌜ Fine self × (n ≤ 1000000000) ⌝ }
-        ensures { λ r. ⌜ turned r (now (image .exit)) (now (output .exit)) ≡ boundaryOf (now (session .entry)) n (worldOf self (now (image .entry)) (now (output .entry))) ⌝ }
+        ensures { λ r. ⌜ turned r (lent (now (image .exit)) (now (output .exit)))
+            ≡ boundaryOf (terms (now (session .entry)) n) (worldOf self (lent (now (image .entry)) (now (output .entry)))) ⌝ }
     {
         if n <= self.cycles.0 {
             return Turned {

@@ -1,11 +1,12 @@
 -- Plain instructions with nothing else between them: the run is the same from where they end. Assumes nothing.
-use Prim.Native.Nat.{ℕ, _+_, _-_, _^_, _≤_, _<_}
+use Prim.Native.Nat.{ℕ, _+_, _-_, _≤_, _<_}
 use native.Mathlib.Omega.{arith}
-use mathlib.Core.Bool.{Bool, true, false, not, _&&_, _||_, Bool·beq, and-true, and-false, true≢false}
+use mathlib.Core.Bool.{Bool, true, false, not, _&&_, _||_, Bool·beq, true≢false}
 use mathlib.Core.List.{List}
 use mathlib.Core.Path.{_≡_, refl, sym, ap, subst, _∙_}
 use lib.Dec.{leb, eqb}
 use borrow.Author.Tests.{leb-false, ne-eqb}
+use Rattle.laws.proofs.Bools.{neither, and-true, and-false}
 use Rattle.turns.specs.Turn.{more}
 use Rattle.timer.specs.Timer.{ticks}
 use Rattle.serial.specs.Serial.{ticksSerial, serialRequest}
@@ -21,14 +22,13 @@ use Rattle.machine.specs.Steps.{Stepped, stepped, stepOf}
 use Rattle.plain.specs.declared.Hop.{Hop}
 use Rattle.plain.specs.Plainly.{Hops}
 use Rattle.boundary.specs.declared.State.{State}
-use Rattle.boundary.specs.Boundary.{worldOf, movedOf, sendOf, executedOf, boundaryOf, runOf}
-use Rattle.boundary.specs.Counts.{Fine}
-use Rattle.boundary.proofs.Picks.{passes}
+use Rattle.boundary.specs.World.{lent, Terms, worldOf, grown, grownTo}
+use Rattle.boundary.specs.Boundary.{sendOf, executedOf, boundaryOf}
+use Rattle.boundary.specs.Counts.{Fine, Fits}
 use Rattle.boundary.proofs.Feeding.{records-done}
 use Rattle.boundary.proofs.Cases.{below-limit, send-rests, act-steps}
 use Rattle.boundary.proofs.Runs.{run-more}
-use Rattle.run.specs.Leaps.{isDue, First, stirs, strodeOf}
-use Rattle.run.proofs.Rooms.{neither}
+use Rattle.run.specs.Leaps.{isDue, First, stirs, strodeOf, Goes, Paced}
 use Rattle.run.proofs.Waiting.{accepts, later, not-due, same}
 
 -- other registers with the same I accept the same
@@ -43,44 +43,42 @@ alike-due j m c e =
     ∙ sym (later j m)
 
 pub strode-law : (s : State) (c : Cpu) (j i : ℕ) {b : Bus} {r : State} → b ≡ passed j (s .machine .chip .bus)
-    → r ≡ movedOf s (onChip (s .machine) c b) j i 0 0 (s .inside && eqb i 0) → r ≡ strodeOf s c j i
-strode-law s c j i p q = q ∙ ap (λ (b : Bus). movedOf s (onChip (s .machine) c b) j i 0 0 (s .inside && eqb i 0)) p
+    → r ≡ grownTo s (onChip (s .machine) c b) (grown j i 0 0) (s .inside && eqb i 0) → r ≡ strodeOf s c j i
+strode-law s c j i p q = q ∙ ap (λ (b : Bus). grownTo s (onChip (s .machine) c b) (grown j i 0 0) (s .inside && eqb i 0)) p
 
 -- no instruction yet
 pub strode-none : (s : State) → s ≡ strodeOf s (s .machine .chip .cpu) 0 0
 unfolding passed ticks ticksSerial
-strode-none s = same {x = s} refl refl (omega arith) (omega arith) (omega arith) (omega arith) (sym (and-true (s .inside)))
+strode-none s = same s refl (omega arith) (omega arith) (omega arith) (omega arith) (sym (and-true (s .inside)))
 
 -- one more, of k cycles
 strode-more : (s : State) (c d : Cpu) (j i k : ℕ)
-    → movedOf (strodeOf s c j i) (passedOf k (onChip (s .machine) d (passed j (s .machine .chip .bus)))) k 1 0 0 false ≡ strodeOf s d (j + k) (i + 1)
+    → grownTo (strodeOf s c j i) (passedOf k (onChip (s .machine) d (passed j (s .machine .chip .bus)))) (grown k 1 0 0) false
+    ≡ strodeOf s d (j + k) (i + 1)
 strode-more s c d j i k =
-    same {x = s} (ap (λ (b : Bus). onChip (s .machine) d b) (sym (bus.passed-add j k (s .machine .chip .bus)))) refl
+    same s (ap (λ (b : Bus). onChip (s .machine) d b) (sym (bus.passed-add j k (s .machine .chip .bus))))
     (omega arith) (omega arith) (omega arith) (omega arith)
     (sym (ap (λ (t : Bool). s .inside && t) (ne-eqb (i + 1) 0 (λ (z : i + 1 ≡ 0). omega arith)) ∙ and-false (s .inside)))
 
-module _ (session : List ℕ) (n : ℕ) (s : State) where
+module _ (t : Terms) (s : State) where
   -- as long as nothing stirs, a boundary is the next instruction
-  pub stride-turn : (c d : Cpu) (j i k : ℕ) (image after o : List ℕ) → s .cycles .0 + j < n → stirs session s j ≡ false → c .waiting ≡ false
-      → c .codes .i ≡ s .machine .chip .cpu .codes .i → 0 < k
+  pub stride-turn : (c d : Cpu) (j i k : ℕ) (image after o : List ℕ) → s .cycles .0 + j < t .limit → stirs t s j ≡ false
+      → c .waiting ≡ false → c .codes .i ≡ s .machine .chip .cpu .codes .i → 0 < k
       → stepOf image (strodeOf s c j i .machine) ≡ stepped (strodeOf s c j i .machine) k (out d (passed j (s .machine .chip .bus)) after)
-      → boundaryOf session n (worldOf (strodeOf s c j i) image o) ≡ more (worldOf (strodeOf s d (j + k) (i + 1)) after o)
+      → boundaryOf t (worldOf (strodeOf s c j i) (lent image o)) ≡ more (worldOf (strodeOf s d (j + k) (i + 1)) (lent after o))
   unfolding passed
-  stride-turn c d j i k image after o l still awake masked takes e =
-      let t = strodeOf s c j i in
+  stride-turn c d j i k image after o b still awake masked takes e =
+      let r = strodeOf s c j i in
+      let l = lent image o in
       let q = neither _ _ still in
       let p = neither _ _ (q .0) in
-      below-limit t image o session n l
-      ∙ ap (λ (x : State). sendOf (worldOf x image o)) (records-done session image t (p .0))
-      ∙ send-rests t image o (p .1)
-      ∙ act-steps t image o (not-due _ (alike-due j (s .machine) c masked ∙ q .1)) awake
-      ∙ ap (λ (z : Stepped). executedOf z (worldOf t image o)) e
+      below-limit r l t b
+      ∙ ap (λ (x : State). sendOf (worldOf x l)) (records-done (t .session) image r (p .0))
+      ∙ send-rests r l (p .1)
+      ∙ act-steps r l (not-due _ (alike-due j (s .machine) c masked ∙ q .1)) awake
+      ∙ ap (λ (z : Stepped). executedOf z (worldOf r l)) e
       ∙ passes _ _ (ne-eqb k 0 (λ (z : k ≡ 0). omega arith))
-      ∙ ap (λ (x : State). more (worldOf x after o)) (strode-more s c d j i k)
-
--- the run goes on the same from r and `after`
-abbrev pub Goes : List ℕ → ℕ → State → List ℕ → State → List ℕ → Type 0
-Goes session n s image r after = (o : List ℕ) → runOf session n (worldOf s image o) ≡ runOf session n (worldOf r after o)
+      ∙ ap (λ (x : State). more (worldOf x (lent after o))) (strode-more s c d j i k)
 
 -- two bools that are not unlike
 alike : (a b : Bool) → not (Bool·beq a b) ≡ false → a ≡ b
@@ -96,37 +94,37 @@ ends room cycles c masked = (leb room cycles || c .waiting) || not (Bool·beq (c
 pub below-room : (room cycles : ℕ) (a b : Bool) → ((leb room cycles || a) || b) ≡ false → cycles < room
 below-room room cycles a b on = leb-false room cycles (neither (leb room cycles) a (neither (leb room cycles || a) b on .0) .0)
 
--- one turn of the stride
-pub strides : (session : List ℕ) (n : ℕ) (s : State) (room : ℕ) (c : Cpu) (j i : ℕ) (h : Hop) (image₀ image after : List ℕ)
-    → First (n - s .cycles .0) room (stirs session s) → ends room j c (s .machine .chip .cpu .codes .i) ≡ false
-    → Hops (s .machine .chip .bus .r) c image h after → (h .cycles ≡ 0 → ⊥)
-    → Goes session n s image₀ (strodeOf s c j i) image → Goes session n s image₀ (strodeOf s (h .cpu) (j + h .cycles) (i + 1)) after
-unfolding passed
-strides session n s room c j i h image₀ image after first on hops takes goes o =
-    let q = neither (leb room j || c .waiting) _ on in
-    let p = neither (leb room j) _ (q .0) in
-    let l = below-room room j _ _ on in
-    let w = first .within in
-    let z : 0 < h .cycles = omega arith in
-    goes o
-    ∙ run-more session n _
-    (stride-turn session n s c (h .cpu) j i (h .cycles) image after o (omega arith) (first .before j l) (p .1) (alike _ _ (q .1)) z
-    (hops .0 z (passed j (s .machine .chip .bus)) (s .machine .irq1) (s .machine .nmi) refl))
+module _ (t : Terms) (s : State) where
+  -- one turn of the stride
+  pub strides : (room : ℕ) (c : Cpu) (j i : ℕ) (h : Hop) (image₀ image after : List ℕ)
+      → First (t .limit - s .cycles .0) room (stirs t s) → ends room j c (s .machine .chip .cpu .codes .i) ≡ false
+      → Hops (s .machine .chip .bus .r) c image h after → (h .cycles ≡ 0 → ⊥)
+      → Goes t s image₀ (strodeOf s c j i) image → Goes t s image₀ (strodeOf s (h .cpu) (j + h .cycles) (i + 1)) after
+  unfolding passed
+  strides room c j i h image₀ image after first on hops takes goes o =
+      let q = neither (leb room j || c .waiting) _ on in
+      let p = neither (leb room j) _ (q .0) in
+      let l = below-room room j _ _ on in
+      let w = first .within in
+      let z : 0 < h .cycles = omega arith in
+      goes o
+      ∙ run-more t _
+      (stride-turn t s c (h .cpu) j i (h .cycles) image after o (omega arith) (first .before j l) (p .1) (alike _ _ (q .1)) z
+      (hops .0 z (passed j (s .machine .chip .bus)) (s .machine .irq1) (s .machine .nmi) refl))
 
--- what the stride promises of its state r and the image after it
-abbrev pub Strides : List ℕ → ℕ → State → List ℕ → State → List ℕ → Type 0
-Strides session n s image r after = Fine r × (s .cycles .0 ≤ r .cycles .0) × Goes session n s image r after
-
-pub stride-ends : (session : List ℕ) (n : ℕ) (s : State) (c : Cpu) (j i : ℕ) (image₀ image after : List ℕ) {r : State} → Fine s → i ≤ j
-    → Goes session n s image₀ (strodeOf s c j i) image → after ≡ image → r ≡ strodeOf s c j i → Strides session n s image₀ r after
-stride-ends session n s c j i image₀ image after f l goes e q =
-    subst (λ (x : State). Strides session n s image₀ x after) (sym q)
-    (subst (λ (x : List ℕ). Strides session n s image₀ (strodeOf s c j i) x) (sym e)
-    (record { instructions = let z = f .instructions in omega arith; entries = let z = f .entries in omega arith; leaps = let z = f .leaps in omega arith; used = f .used }, omega arith, goes))
+  pub stride-ends : (c : Cpu) (j i : ℕ) (image₀ image after : List ℕ) {r : State} → Fine s → i ≤ j
+      → Goes t s image₀ (strodeOf s c j i) image → after ≡ image → r ≡ strodeOf s c j i → Paced t s image₀ r after
+  stride-ends c j i image₀ image after f l goes e q =
+      let x = f .instructions in
+      let y = f .entries in
+      let z = f .leaps in
+      subst (λ (v : State). Paced t s image₀ v after) (sym q)
+      (subst (λ (v : List ℕ). Paced t s image₀ (strodeOf s c j i) v) (sym e)
+      (record { instructions = omega arith; entries = omega arith; leaps = omega arith; used = f .used }, omega arith, goes))
 
 -- the stride's cycles are within the limit but for its last instruction, so no count can pass its type
 pub stride-fits : {s : State} {n room j i : ℕ} → Fine s → s .cycles .0 < n → n ≤ 1000000000 → room ≤ n - s .cycles .0 → i ≤ j → j ≤ room + 255
-    → (s .cycles .0 + j < 2 ^ 32) × (s .instructions .0 + i < 2 ^ 32) × (s .entries .0 < 2 ^ 32) × (s .leaps .0 < 2 ^ 32)
+    → Fits s (grown j i 0 0)
 stride-fits f l h p q r =
     let x = f .instructions in
     let y = f .entries in

@@ -8,12 +8,14 @@ use mathlib.Core.Path.{_≡_, refl, sym, ap, subst, _∙_}
 use lib.Dec.{leb, eqb}
 use lib.ListN.{length}
 use borrow.Author.Tests.{leb-true, leb-false, le-leb, lt-leb, lt-ltb, le-ltb, eq-eqb, ne-eqb}
+use Rattle.laws.proofs.Bools.{neither, both}
 use Rattle.turns.specs.Turn.{more}
 use Rattle.timer.specs.Timer.{ticks}
 use Rattle.timer.proofs.Closed.{ticks-untouched}
 use Rattle.serial.specs.declared.Serial.{Serial as Transmitter}
 use Rattle.serial.specs.Serial.{ticksSerial, serialRequest, wantsToSend}
 use Rattle.serial.proofs.Cycles.{ticks-request, ticks-closed}
+use Rattle.registers.specs.Cpu.{idles}
 use Rattle.bus.specs.Units.{passed}
 use Rattle.session.specs.Session.{timeAt, dueAt}
 use Rattle.machine.specs.declared.Machine.{Machine}
@@ -24,20 +26,23 @@ use Rattle.machine.specs.declared.Pending.the-variants.{Nothing, Due}
 use Rattle.machine.specs.Machine.{passedOf}
 use Rattle.machine.specs.Interrupts.{pendingOf}
 use Rattle.boundary.specs.declared.State.{State}
-use Rattle.boundary.specs.Boundary.{worldOf, movedOf, waitedState, sendOf, runOf}
-use Rattle.boundary.specs.Counts.{Fine}
+use Rattle.boundary.specs.World.{Lent, memoriesIn, Terms, worldOf, grown, grownTo}
+use Rattle.boundary.specs.Boundary.{waitedState, sendOf, runOf}
+use Rattle.boundary.specs.Counts.{Fine, Fits}
 use Rattle.boundary.proofs.Feeding.{records-done}
 use Rattle.boundary.proofs.Cases.{below-limit, send-rests, act-waits}
 use Rattle.boundary.proofs.Runs.{run-leap}
-use Rattle.run.specs.Leaps.{isDue, endsLeap, First, stirs}
-use Rattle.run.proofs.Rooms.{neither, both}
+use Rattle.run.specs.Leaps.{isDue, endsLeap, First, stirs, Leapt}
+
 
 -- what decides whether an interrupt is accepted: a pending NMI; or, with I clear, a cause that is there now, OCF or TOF
 abbrev pub accepts : Bool → Bool → Bool → Bool → Bool → Bool
 accepts nmi i now ocf tof = nmi || (not i && (now || (ocf || tof)))
 
 flat : (k0 k1 k2 k3 k4 k5 : Cause) (a i b c d e f : Bool)
-    → isDue (cond a (Due k0) (cond (not i && b) (Due k1) (cond (not i && c) (Due k2) (cond (not i && d) (Due k3) (cond (not i && e) (Due k4) (cond (not i && f) (Due k5) Nothing))))))
+    → isDue
+    (cond a (Due k0) (cond (not i && b) (Due k1) (cond (not i && c) (Due k2)
+    (cond (not i && d) (Due k3) (cond (not i && e) (Due k4) (cond (not i && f) (Due k5) Nothing))))))
     ≡ accepts a i ((b || c) || f) d e
 flat k0 k1 k2 k3 k4 k5 true i b c d e f = refl
 flat k0 k1 k2 k3 k4 k5 false true b c d e f = refl
@@ -60,7 +65,9 @@ unfolding pendingOf passed
 later j m =
     let t = m .chip .bus .timer in
     let u = ticks-untouched j t in
-    flat Nmi Irq1 Icf Ocf Tof Serial (m .nmi) (m .chip .cpu .codes .i) (not (m .irq1)) (ticks j t .icf .set && ticks j t .eici) (ticks j t .ocf .set && ticks j t .eoci) (ticks j t .tof .set && ticks j t .etoi) (serialRequest (ticksSerial j (m .chip .bus .serial)))
+    flat Nmi Irq1 Icf Ocf Tof Serial (m .nmi) (m .chip .cpu .codes .i) (not (m .irq1))
+    (ticks j t .icf .set && ticks j t .eici) (ticks j t .ocf .set && ticks j t .eoci) (ticks j t .tof .set && ticks j t .etoi)
+    (serialRequest (ticksSerial j (m .chip .bus .serial)))
     ∙ rw (u .eoci, u .etoi, u .eici, u .icf, ticks-request j (m .chip .bus .serial))
 
 -- the transmitter j cycles later
@@ -75,14 +82,6 @@ free busy j = by (leb busy j) refl
     by : (t : Bool) → leb busy j ≡ t → eqb (busy - j) 0 ≡ t
     by true e = let h = leb-true busy j e in eq-eqb (busy - j) 0 (omega arith)
     by false e = let h = leb-false busy j e in ne-eqb (busy - j) 0 (λ (z : busy - j ≡ 0). omega arith)
-
--- a record's time, counted from now
-pub from-now : (time count j : ℕ) → count < time → leb time (count + j) ≡ leb (time - count) j
-from-now time count j l = by (leb (time - count) j) refl
-  where
-    by : (t : Bool) → leb (time - count) j ≡ t → leb time (count + j) ≡ t
-    by true e = let h = leb-true (time - count) j e in le-leb time (count + j) (omega arith)
-    by false e = let h = leb-false (time - count) j e in lt-leb time (count + j) (omega arith)
 
 module _ (session : List ℕ) (count at : ℕ) where
   pub no-record : length session ≤ at → (j : ℕ) → dueAt session (count + j) at ≡ false
@@ -99,41 +98,54 @@ not-due (Due k) e = absurd (true≢false e)
 
 -- j waiting cycles more
 abbrev pub still : State → ℕ → State
-still s j = movedOf s (passedOf j (s .machine)) j 0 0 0 true
+still s j = grownTo s (passedOf j (s .machine)) (grown j 0 0 0) true
 
-pub same : {m m′ : Machine} {x y : State} {a a′ b b′ c c′ d d′ : ℕ} {f f′ : Bool} → m ≡ m′ → x ≡ y → a ≡ a′ → b ≡ b′ → c ≡ c′ → d ≡ d′ → f ≡ f′
-    → _≡_ {A = State} (record { machine = m; place = x .place; used = x .used; cycles = record { 0 = a }; instructions = record { 0 = b }; entries = record { 0 = c }; sent = x .sent; leaps = record { 0 = d }; inside = f })
-    (record { machine = m′; place = y .place; used = y .used; cycles = record { 0 = a′ }; instructions = record { 0 = b′ }; entries = record { 0 = c′ }; sent = y .sent; leaps = record { 0 = d′ }; inside = f′ })
-same l o p q r s t = cc
+-- a state whose counts are these
+abbrev counted : State → Machine → ℕ → ℕ → ℕ → ℕ → Bool → State
+counted s m cycles instructions entries leaps inside =
+    record {
+      machine = m;
+      place = s .place;
+      used = s .used;
+      cycles = record { 0 = cycles };
+      instructions = record { 0 = instructions };
+      entries = record { 0 = entries };
+      sent = s .sent;
+      leaps = record { 0 = leaps };
+      inside = inside;
+    }
+
+pub same : (x : State) {m m′ : Machine} {a a′ b b′ c c′ d d′ : ℕ} {f f′ : Bool} → m ≡ m′ → a ≡ a′ → b ≡ b′ → c ≡ c′ → d ≡ d′ → f ≡ f′
+    → counted x m a b c d f ≡ counted x m′ a′ b′ c′ d′ f′
+same x l p q r s t = cc
 
 still-zero : (s : State) → s .inside ≡ true → s ≡ still s 0
 unfolding passed ticks ticksSerial
-still-zero s e = same {x = s} refl refl (omega arith) (omega arith) (omega arith) (omega arith) e
+still-zero s e = same s refl (omega arith) (omega arith) (omega arith) (omega arith) e
 
 still-suc : (s : State) (j : ℕ) → waitedState (still s j) ≡ still s (suc j)
 unfolding waitedState passed ticks ticksSerial
-still-suc s j = same {x = s} refl refl (omega arith) (omega arith) (omega arith) (omega arith) refl
+still-suc s j = same s refl (omega arith) (omega arith) (omega arith) (omega arith) refl
 
-module _ (session : List ℕ) (n : ℕ) (s : State) (ins : s .inside ≡ true) (wait : s .machine .chip .cpu .waiting ≡ true) where
+module _ (t : Terms) (s : State) (ins : s .inside ≡ true) (wait : idles (s .machine .chip .cpu) ≡ true) where
   -- as long as nothing stirs, the waiting cycles may be passed at once
-  pub leap-law : (k : ℕ) → First (n - s .cycles .0) k (stirs session s) → (i o : List ℕ)
-      → runOf session n (worldOf s i o) ≡ runOf session n (worldOf (still s k) i o)
+  pub leap-law : (k : ℕ) → First (t .limit - s .cycles .0) k (stirs t s) → (l : Lent) → runOf t (worldOf s l) ≡ runOf t (worldOf (still s k) l)
   unfolding passed
-  leap-law k h i o =
-      ap (λ (x : State). runOf session n (worldOf x i o)) (still-zero s ins)
-      ∙ run-leap session n (λ j. worldOf (still s j) i o) k
-      (λ j l.
+  leap-law k h l =
+      ap (λ (x : State). runOf t (worldOf x l)) (still-zero s ins)
+      ∙ run-leap t (λ j. worldOf (still s j) l) k
+      (λ j b.
       let w = h .within in
-      let q = neither _ _ (h .before j l) in
+      let q = neither _ _ (h .before j b) in
       let p = neither _ _ (q .0) in
-      below-limit (still s j) i o session n (omega arith)
-      ∙ ap (λ (x : State). sendOf (worldOf x i o)) (records-done session i (still s j) (p .0))
-      ∙ send-rests (still s j) i o (p .1)
-      ∙ act-waits (still s j) i o (not-due _ (q .1)) wait
-      ∙ ap (λ (x : State). more (worldOf x i o)) (still-suc s j))
+      below-limit (still s j) l t (omega arith)
+      ∙ ap (λ (x : State). sendOf (worldOf x l)) (records-done (t .session) (memoriesIn l) (still s j) (p .0))
+      ∙ send-rests (still s j) l (p .1)
+      ∙ act-waits (still s j) l (not-due _ (q .1)) wait
+      ∙ ap (λ (x : State). more (worldOf x l)) (still-suc s j))
 
   -- and there the leap ends
-  pub leap-ends : (k : ℕ) → First (n - s .cycles .0) k (stirs session s) → endsLeap session n (still s k) ≡ true
+  pub leap-ends : (k : ℕ) → First (t .limit - s .cycles .0) k (stirs t s) → endsLeap t (still s k) ≡ true
   unfolding passed
   leap-ends k h = by (h .there)
     where
@@ -145,39 +157,37 @@ module _ (session : List ℕ) (n : ℕ) (s : State) (ins : s .inside ≡ true) (
       first true b c d e = refl
       first false b c d e = absurd (false≢true e)
 
-      by : (k ≡ n - s .cycles .0) ⊎ (stirs session s k ≡ true) → endsLeap session n (still s k) ≡ true
-      by (inl e) = first _ _ _ _ (le-leb n (s .cycles .0 + k) (omega arith))
+      by : (k ≡ t .limit - s .cycles .0) ⊎ (stirs t s k ≡ true) → endsLeap t (still s k) ≡ true
+      by (inl e) = first _ _ _ _ (le-leb (t .limit) (s .cycles .0 + k) (omega arith))
       by (inr e) =
-          last (leb n (s .cycles .0 + k)) (dueAt session (s .cycles .0 + k) (s .place)) (wantsToSend (ticksSerial k (s .machine .chip .bus .serial)))
+          last (leb (t .limit) (s .cycles .0 + k)) (dueAt (t .session) (s .cycles .0 + k) (s .place))
+          (wantsToSend (ticksSerial k (s .machine .chip .bus .serial)))
           (isDue (pendingOf (passedOf k (s .machine)))) e
 
 pub still-fine : (s : State) (k : ℕ) → Fine s → Fine (still s k)
 still-fine s k h =
-    record { instructions = let z = h .instructions in omega arith; entries = let z = h .entries in omega arith; leaps = let z = h .leaps in omega arith; used = h .used }
+    let i = h .instructions in
+    let e = h .entries in
+    let l = h .leaps in
+    record { instructions = omega arith; entries = omega arith; leaps = omega arith; used = h .used }
 
-pub limit-ends : (session : List ℕ) (n : ℕ) (s : State) → n ≤ s .cycles .0 → endsLeap session n s ≡ true
-limit-ends session n s h = by _ _ _ _ (le-leb n (s .cycles .0) h)
+pub limit-ends : (t : Terms) (s : State) → t .limit ≤ s .cycles .0 → endsLeap t s ≡ true
+limit-ends t s h = by _ _ _ _ (le-leb (t .limit) (s .cycles .0) h)
   where
     by : (a b c d : Bool) → a ≡ true → (((a || b) || c) || d) ≡ true
     by true b c d e = refl
     by false b c d e = absurd (false≢true e)
 
--- what the leap promises of its state r
-abbrev pub Leapt : List ℕ → ℕ → State → State → Type 0
-Leapt session n s r =
-    Fine r × (s .cycles .0 ≤ r .cycles .0) × ((s .inside && s .machine .chip .cpu .waiting) ≡ true → endsLeap session n r ≡ true)
-    × ((i o : List ℕ) → runOf session n (worldOf s i o) ≡ runOf session n (worldOf r i o))
-
-pub leapt : (session : List ℕ) (n : ℕ) (s : State) (k : ℕ) {r : State} {m : Machine} → (s .inside && s .machine .chip .cpu .waiting) ≡ true
-    → First (n - s .cycles .0) k (stirs session s) → Fine s → m ≡ passedOf k (s .machine) → r ≡ movedOf s m k 0 0 0 true → Leapt session n s r
-leapt session n s k w h f p q =
+pub leapt : (t : Terms) (s : State) (k : ℕ) {r : State} {m : Machine} → (s .inside && idles (s .machine .chip .cpu)) ≡ true
+    → First (t .limit - s .cycles .0) k (stirs t s) → Fine s → m ≡ passedOf k (s .machine) → r ≡ grownTo s m (grown k 0 0 0) true
+    → Leapt t s r
+leapt t s k w h f p q =
     let e = both _ _ w in
-    subst (Leapt session n s) (sym (q ∙ ap (λ (x : Machine). movedOf s x k 0 0 0 true) p))
-    (still-fine s k f, omega arith, λ _. leap-ends session n s (e .0) (e .1) k h, leap-law session n s (e .0) (e .1) k h)
+    subst (Leapt t s) (sym (q ∙ ap (λ (x : Machine). grownTo s x (grown k 0 0 0) true) p))
+    (still-fine s k f, omega arith, λ _. leap-ends t s (e .0) (e .1) k h, leap-law t s (e .0) (e .1) k h)
 
 -- a leap's cycles are within the limit, so no count can pass its type
-pub within-types : {s : State} {n k : ℕ} → Fine s → s .cycles .0 < n → n ≤ 1000000000 → k ≤ n - s .cycles .0
-    → (s .cycles .0 + k < 2 ^ 32) × (s .instructions .0 + 0 < 2 ^ 32) × (s .entries .0 + 0 < 2 ^ 32) × (s .leaps .0 + 0 < 2 ^ 32)
+pub within-types : {s : State} {n k : ℕ} → Fine s → s .cycles .0 < n → n ≤ 1000000000 → k ≤ n - s .cycles .0 → Fits s (grown k 0 0 0)
 within-types f l h p =
     let x = f .instructions in
     let y = f .entries in

@@ -1,4 +1,5 @@
--- Where a leap ends, and what the functions that look for its end promise; the state after plain instructions.
+-- Where a leap ends, what the functions that look for its end promise, and the state after plain instructions: from each the run goes on
+-- the same.
 use Prim.Native.Nat.{ℕ, _+_, _≤_, _<_}
 use mathlib.Core.Bool.{Bool, true, false, _||_, _&&_}
 use mathlib.Core.List.{List}
@@ -9,21 +10,23 @@ use Rattle.session.specs.Session.{dueAt}
 use Rattle.serial.specs.Serial.{wantsToSend, ticksSerial}
 use Rattle.bus.specs.Units.{passed}
 use Rattle.registers.specs.declared.Cpu.{Cpu}
+use Rattle.registers.specs.Cpu.{idles}
 use Rattle.machine.specs.declared.Pending.{Pending}
 use Rattle.machine.specs.declared.Pending.the-variants.{Nothing, Due}
 use Rattle.machine.specs.Machine.{onChip, passedOf}
 use Rattle.machine.specs.Interrupts.{pendingOf}
 use Rattle.boundary.specs.declared.State.{State}
-use Rattle.boundary.specs.Boundary.{movedOf, sendsOf}
+use Rattle.boundary.specs.World.{Lent, lent, Terms, worldOf, grown, grownTo}
+use Rattle.boundary.specs.Boundary.{due, sendsOf, runOf}
+use Rattle.boundary.specs.Counts.{Fine}
 
 abbrev pub isDue : Pending → Bool
 isDue Nothing = false
 isDue (Due cause) = true
 
 -- the boundary at which a leap ends: the limit is reached, a record is due, a byte is to be sent or an interrupt is accepted
-abbrev pub endsLeap : List ℕ → ℕ → State → Bool
-endsLeap session n s =
-    leb n (s .cycles .0) || dueAt session (s .cycles .0) (s .place) || sendsOf s || isDue (pendingOf (s .machine))
+abbrev pub endsLeap : Terms → State → Bool
+endsLeap t s = leb (t .limit) (s .cycles .0) || due (t .session) s || sendsOf s || isDue (pendingOf (s .machine))
 
 -- r is the first of 0, 1, .. at which a test holds, or `most` where it holds at none before that
 pub record First (most r : ℕ) (test : ℕ → Bool) : Type 0 where
@@ -32,12 +35,28 @@ pub record First (most r : ℕ) (test : ℕ → Bool) : Type 0 where
   pub there : (r ≡ most) ⊎ (test r ≡ true)
 
 -- what would be more than a waiting cycle or an instruction, j cycles later: a record, a byte to send or an interrupt
-abbrev pub stirs : List ℕ → State → ℕ → Bool
-stirs session s j =
-    (dueAt session (s .cycles .0 + j) (s .place) || wantsToSend (ticksSerial j (s .machine .chip .bus .serial)))
+abbrev pub stirs : Terms → State → ℕ → Bool
+stirs t s j =
+    (dueAt (t .session) (s .cycles .0 + j) (s .place) || wantsToSend (ticksSerial j (s .machine .chip .bus .serial)))
     || isDue (pendingOf (passedOf j (s .machine)))
+
+-- after a leap from s the state is r: within a wait, the leap ends there
+abbrev pub Leapt : Terms → State → State → Type 0
+Leapt t s r =
+    Fine r × (s .cycles .0 ≤ r .cycles .0)
+    × ((s .inside && idles (s .machine .chip .cpu)) ≡ true → endsLeap t r ≡ true)
+    × ((l : Lent) → runOf t (worldOf s l) ≡ runOf t (worldOf r l))
 
 -- the state after plain instructions: the registers are c, and on the bus only their cycles have passed
 abbrev pub strodeOf : State → Cpu → ℕ → ℕ → State
 strodeOf s c cycles instructions =
-    movedOf s (onChip (s .machine) c (passed cycles (s .machine .chip .bus))) cycles instructions 0 0 (s .inside && eqb instructions 0)
+    grownTo s (onChip (s .machine) c (passed cycles (s .machine .chip .bus)))
+    (grown cycles instructions 0 0)
+    (s .inside && eqb instructions 0)
+
+-- the run goes on the same from r and the image `after`
+abbrev pub Goes : Terms → State → List ℕ → State → List ℕ → Type 0
+Goes t s image r after = (o : List ℕ) → runOf t (worldOf s (lent image o)) ≡ runOf t (worldOf r (lent after o))
+
+abbrev pub Paced : Terms → State → List ℕ → State → List ℕ → Type 0
+Paced t s image r after = Fine r × (s .cycles .0 ≤ r .cycles .0) × Goes t s image r after

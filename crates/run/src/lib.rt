@@ -1,27 +1,32 @@
 // The two runs over one boundary: the single one passes each waiting cycle as a boundary of its own, the leaping one passes
 // the rest of a wait at once, as far as nothing happens in it. In both, plain instructions follow each other as far as nothing
 // else happens among them.
+use boundary::Grown;
 use boundary::Progress;
 use boundary::State;
 use boundary::Stop;
+use counts::Cycles;
+use counts::Entries;
+use counts::Instructions;
+use counts::Leaps;
 use cpu::Chip;
 use machine::Machine;
 use registers::Cpu;
 use serial::Serial;
 use timer::Timer;
 ghost use mathlib.Core.Path.{_≡_};
-ghost use mathlib.Core.Bool.{true, _&&_, _||_};
-ghost use mathlib.Core.List.{List};
+ghost use mathlib.Core.Bool.{_&&_, _||_};
 ghost use lib.Dec.{leb};
-ghost use Prim.Native.Nat.{ℕ, _+_, _-_, _^_, _≤_, _<_};
+ghost use Prim.Native.Nat.{_+_, _-_, _≤_};
 ghost use Rattle.session.specs.Session.{dueAt};
 ghost use Rattle.serial.specs.Serial.{wantsToSend, ticksSerial};
 ghost use Rattle.timer.specs.Timer.{ticks};
 ghost use Rattle.machine.specs.Machine.{passedOf};
 ghost use Rattle.machine.specs.Interrupts.{pendingOf};
-ghost use Rattle.boundary.specs.Boundary.{worldOf, endedOf, runOf};
-ghost use Rattle.boundary.specs.Counts.{Fine};
-ghost use Rattle.run.specs.Leaps.{isDue, endsLeap, First, stirs, strodeOf};
+ghost use Rattle.boundary.specs.World.{lent, terms, worldOf, endedOf, grown};
+ghost use Rattle.boundary.specs.Boundary.{runOf};
+ghost use Rattle.boundary.specs.Counts.{Fine, Fits};
+ghost use Rattle.run.specs.Leaps.{isDue, First, stirs, Leapt, strodeOf, Paced};
 
 // How a run ended.
 pub struct Outcome {
@@ -100,7 +105,7 @@ fn interrupt_room(most: u32, m: Machine) -> u32
 // How many cycles pass before a boundary that is more than a waiting cycle or an instruction.
 fn room(session: &[u8], n: u32, s: State) -> u32
     requires { ⌜ s .cycles .0 ≤ n ⌝ }
-    ensures { λ r. ⌜ First (n - s .cycles .0) r (stirs (now (session .entry)) s) ⌝ }
+    ensures { λ r. ⌜ First (n - s .cycles .0) r (stirs (terms (now (session .entry)) n) s) ⌝ }
 {
     let m = s.machine;
     let a = record_room(n - s.cycles.0, session, s.cycles.0, s.place);
@@ -111,45 +116,52 @@ fn room(session: &[u8], n: u32, s: State) -> u32
 // After a waiting cycle, the rest of its leap at once: the run goes on the same, from where the leap ends.
 fn leap(session: &[u8], n: u32, s: State) -> State
     requires { ⌜ Fine s × (n ≤ 1000000000) ⌝ }
-    ensures { λ r. ⌜ Fine r × (s .cycles .0 ≤ r .cycles .0) × ((s .inside && s .machine .chip .cpu .waiting) ≡ true → endsLeap (now (session .entry)) n r ≡ true) × ((i o : List ℕ) → runOf (now (session .entry)) n (worldOf s i o) ≡ runOf (now (session .entry)) n (worldOf r i o)) ⌝ }
+    ensures { λ r. ⌜ Leapt (terms (now (session .entry)) n) s r ⌝ }
 {
-    if !(s.inside & s.machine.chip.cpu.waiting) {
+    if !(s.inside & s.machine.chip.cpu.idles()) {
         return s;
     }
     if n <= s.cycles.0 {
         return s;
     }
     let k = room(session, n, s);
-    s.moved(s.machine.pass(k), k, 0, 0, 0, true)
+    let m = s.machine.pass(Cycles(k));
+    let by = Grown {
+        cycles: Cycles(k),
+        instructions: Instructions(0),
+        entries: Entries(0),
+        leaps: Leaps(0),
+    };
+    s.moved(m, by, true)
 }
 
 // The state after so many instructions and cycles that left the bus alone.
-fn strode(s: State, c: Cpu, cycles: u32, instructions: u32) -> State
-    requires { ⌜ (s .cycles .0 + cycles < 2 ^ 32) × (s .instructions .0 + instructions < 2 ^ 32) × (s .entries .0 < 2 ^ 32) × (s .leaps .0 < 2 ^ 32) ⌝ }
-    ensures { λ r. ⌜ r ≡ strodeOf s c cycles instructions ⌝ }
+fn strode(s: State, c: Cpu, cycles: Cycles, instructions: Instructions) -> State
+    requires { ⌜ Fits s (grown (cycles .0) (instructions .0) 0 0) ⌝ }
+    ensures { λ r. ⌜ r ≡ strodeOf s c (cycles .0) (instructions .0) ⌝ }
 {
     let m = s.machine;
-    let bus = m.chip.bus.pass(cycles);
+    let bus = m.chip.bus.pass(cycles.0);
     let chip = Chip { cpu: c, bus: bus };
     let next = Machine {
         chip: chip,
         irq1: m.irq1,
         nmi: m.nmi,
     };
-    s.moved(
-        next,
-        cycles,
-        instructions,
-        0,
-        0,
-        s.inside & (instructions == 0),
-    )
+    let inside = s.inside & (instructions.0 == 0);
+    let by = Grown {
+        cycles: cycles,
+        instructions: instructions,
+        entries: Entries(0),
+        leaps: Leaps(0),
+    };
+    s.moved(next, by, inside)
 }
 
 // Plain instructions one after the other, as long as nothing else stirs: the run goes on the same, from where they end.
 fn stride(session: &[u8], n: u32, s: State, image: &mut [u8]) -> State
     requires { ⌜ Fine s × (n ≤ 1000000000) ⌝ }
-    ensures { λ r. ⌜ Fine r × (s .cycles .0 ≤ r .cycles .0) × ((o : List ℕ) → runOf (now (session .entry)) n (worldOf s (now (image .entry)) o) ≡ runOf (now (session .entry)) n (worldOf r (now (image .exit)) o)) ⌝ }
+    ensures { λ r. ⌜ Paced (terms (now (session .entry)) n) s (now (image .entry)) r (now (image .exit)) ⌝ }
 {
     if n <= s.cycles.0 {
         return s;
@@ -162,12 +174,12 @@ fn stride(session: &[u8], n: u32, s: State, image: &mut [u8]) -> State
     let mut cycles = 0;
     let mut instructions = 0;
     loop {
-        if (room <= cycles) | c.waiting | (c.codes.i != masked) {
-            return strode(s, c, cycles, instructions);
+        if (room <= cycles) | c.idles() | (c.codes.i != masked) {
+            return strode(s, c, Cycles(cycles), Instructions(instructions));
         }
         let h = plain::step(c, start, image);
         if h.cycles == 0 {
-            return strode(s, c, cycles, instructions);
+            return strode(s, c, Cycles(cycles), Instructions(instructions));
         }
         c = h.cpu;
         cycles = cycles + h.cycles as u32;
@@ -178,9 +190,9 @@ fn stride(session: &[u8], n: u32, s: State, image: &mut [u8]) -> State
 // What either run does between two boundaries.
 fn pace(leaping: bool, session: &[u8], n: u32, s: State, image: &mut [u8]) -> State
     requires { ⌜ Fine s × (n ≤ 1000000000) ⌝ }
-    ensures { λ r. ⌜ Fine r × (s .cycles .0 ≤ r .cycles .0) × ((o : List ℕ) → runOf (now (session .entry)) n (worldOf s (now (image .entry)) o) ≡ runOf (now (session .entry)) n (worldOf r (now (image .exit)) o)) ⌝ }
+    ensures { λ r. ⌜ Paced (terms (now (session .entry)) n) s (now (image .entry)) r (now (image .exit)) ⌝ }
 {
-    if s.machine.chip.cpu.waiting {
+    if s.machine.chip.cpu.idles() {
         if leaping {
             return leap(session, n, s);
         }
@@ -199,7 +211,8 @@ pub fn run(
     start: State,
 ) -> Outcome
     requires { ⌜ Fine start × (n ≤ 1000000000) ⌝ }
-    ensures { λ r. ⌜ endedOf (r .stop) (worldOf (r .state) (now (image .exit)) (now (output .exit))) ≡ runOf (now (session .entry)) n (worldOf start (now (image .entry)) (now (output .entry))) ⌝ }
+    ensures { λ r. ⌜ endedOf (r .stop) (worldOf (r .state) (lent (now (image .exit)) (now (output .exit))))
+        ≡ runOf (terms (now (session .entry)) n) (worldOf start (lent (now (image .entry)) (now (output .entry)))) ⌝ }
 {
     let mut s = start;
     loop {

@@ -1,6 +1,7 @@
 use borrow.Author.Needs.{needs}
 use Rattle.run.proofs.Waiting.{leapt, limit-ends, within-types}
 use mathlib.Core.Path.{refl, sym, _∙_}
+use Rattle.boundary.specs.World.{terms}
 use native.Mathlib.Omega.{arith}
 use borrow.Author.Tests.{not-true, not-false}
 use mathlib.Core.Bool.{true≢false}
@@ -11,9 +12,16 @@ pub leap-spec : {M : Type 1} → statement M
 leap-spec =
     tie.close
     (tie.spec
-    (λ c. (c .before .before .before .pre .0, omega arith, λ e. absurd (true≢false (sym e ∙ not-true _ (c .if1 .taken))), λ i o. refl))  -- returns
-    (λ c. (c .before .before .before .before .before .pre .0, omega arith, λ e. limit-ends _ _ (c .before .before .before .before .before .args .s) (c .if2 .taken), λ i o. refl))  -- returns-2
+    (λ c. (c .before .before .before .pre .0, omega arith, λ e. absurd (true≢false (sym e ∙ not-true _ (c .if1 .taken))), λ l. refl))  -- returns
+    (λ c. (c .before .before .before .before .before .pre .0, omega arith, λ e. limit-ends _ (c .before .before .before .before .before .args .s) (c .if2 .taken), λ l. refl))  -- returns-2
     (λ c κs. let h = c .if2 .left in omega (arith, h))  -- room-requires
     (λ c κs. search needs)  -- pass-requires
-    (λ c κs. within-types (c .before .before .before .before .before .before .before .pre .0) (c .before .before .if2 .left) (c .before .before .before .before .before .before .before .pre .1) (c .before .room .ensures .within))  -- moved-requires
-    (λ c. let a = c .before .before .before .before .before .before .before .before .args in leapt (a .session .now) (a .n) (a .s) (c .before .before .room .result) (not-false _ (c .before .before .before .before .before .if1 .left)) (c .before .before .room .ensures) (c .before .before .before .before .before .before .before .before .pre .0) (c .before .pass .ensures) (c .moved .ensures)))  -- returns-3
+    (λ c κs.
+    let p = c .before .before .before .before .before .before .before .pre in
+    within-types (p .0) (c .before .before .if2 .left) (p .1) (c .before .room .ensures .within))  -- moved-requires
+    (λ c.
+    let a = c .before .before .before .before .before .before .before .before .args in
+    let f = c .before .before .before .before .before .before .before .before .pre .0 in
+    let within = not-false _ (c .before .before .before .before .before .if1 .left) in
+    let room = c .before .before .room in
+    leapt (terms (a .session .now) (a .n)) (a .s) (room .result) within (room .ensures) f (c .before .pass .ensures) (c .moved .ensures)))  -- returns-3

@@ -1,9 +1,9 @@
 use borrow.Author.Needs.{needs}
-use Rattle.boundary.proofs.Cases.{act-enters, act-waits, act-steps}
 use mathlib.Core.Path.{sym, ap, _∙_}
 use Rattle.turns.specs.Turn.{more}
-use Rattle.boundary.specs.Boundary.{World, worldOf}
+use Rattle.boundary.specs.World.{lent, World, worldOf}
 use Rattle.boundary.specs.declared.State.{State}
+use Rattle.boundary.proofs.Cases.{act-enters, act-waits, act-steps}
 use Rattle.boundary.proofs.State.act.Statement.{statement}
 use Rattle.boundary.proofs.State.act.Tie as tie
 
@@ -15,10 +15,24 @@ act-spec =
     (λ c. search needs)  -- enum-known-p
     (λ c κs. search needs)  -- enter-requires
     (λ c. search needs)  -- enum-told
+    (λ c κs. search needs)  -- idles-requires
     (λ c κs. search needs)  -- wait-requires
-    (λ c. let a = c .before .before .before .before .before .before .args in λ o. ap (λ (x : State). more (worldOf x (a .image .now) o)) (c .wait .ensures) ∙ sym (act-waits (a .self) (a .image .now) o (sym (c .before .before .before .before .pending .ensures) ∙ c .before .before .enum-told .given .1) (c .before .if1 .taken)))  -- returns
+    (λ c.
+    let a = c .before .before .before .before .before .before .before .args in
+    let none = sym (c .before .before .before .before .before .pending .ensures) ∙ c .before .before .before .enum-told .given .1 in
+    let idle = sym (c .before .before .idles .ensures) ∙ c .before .if1 .taken in
+    λ o.
+    ap (λ (x : State). more (worldOf x (lent (a .image .now) o))) (c .wait .ensures)
+    ∙ sym (act-waits (a .self) (lent (a .image .now) o) none idle))  -- returns
     (λ c κs. search needs)  -- step-requires
     (λ c. search needs)  -- same-length
-    (λ c. let a = c .before .before .before .before .before .before .before .before .before .args in λ o. ap (λ (w : World). more w) (c .before .before .enter .ensures o) ∙ sym (act-enters (a .self) (a .image .now) o (sym (c .before .before .before .before .before .before .before .pending .ensures) ∙ c .before .before .before .before .before .p .given .1)))  -- returns-2
+    (λ c.
+    let a = c .before .before .before .before .before .before .before .before .before .args in
+    let due = sym (c .before .before .before .before .before .before .before .pending .ensures) ∙ c .before .before .before .before .before .p .given .1 in
+    λ o. ap (λ (w : World). more w) (c .before .before .enter .ensures o) ∙ sym (act-enters (a .self) (lent (a .image .now) o) due))  -- returns-2
     (λ c. search needs)  -- same-length-2
-    (λ c. let a = c .before .before .before .before .before .before .before .before .before .args in λ o. c .before .before .step .ensures o ∙ sym (act-steps (a .self) (a .image .now) o (sym (c .before .before .before .before .before .before .before .pending .ensures) ∙ c .before .before .before .before .before .enum-told .given .1) (c .before .before .before .before .if1 .left))))  -- returns-3
+    (λ c.
+    let a = c .before .before .before .before .before .before .before .before .before .before .args in
+    let none = sym (c .before .before .before .before .before .before .before .before .pending .ensures) ∙ c .before .before .before .before .before .before .enum-told .given .1 in
+    let busy = sym (c .before .before .before .before .before .idles .ensures) ∙ c .before .before .before .before .if1 .left in
+    λ o. c .before .before .step .ensures o ∙ sym (act-steps (a .self) (lent (a .image .now) o) none busy)))  -- returns-3

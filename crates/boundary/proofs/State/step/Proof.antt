@@ -1,5 +1,7 @@
 use borrow.Author.Needs.{needs}
-use Rattle.boundary.proofs.Cases.{step-stops, step-goes}
+use mathlib.Core.Path.{sym, _∙_}
+use Rattle.boundary.specs.World.{lent}
+use Rattle.boundary.proofs.Cases.{step-stops, step-goes, step-fits}
 use Rattle.boundary.proofs.State.step.Statement.{statement}
 use Rattle.boundary.proofs.State.step.Tie as tie
 
@@ -7,10 +9,19 @@ pub step-spec : {M : Type 1} → statement M
 step-spec =
     tie.close
     (tie.spec
+    (λ c κs. search needs)  -- look-requires
+    (λ c. search needs)  -- enum-told
+    (λ c. search needs)  -- enum-known-look
     (λ c κs. search needs)  -- step-requires
+    (λ c κs.
+    let runs = sym (c .before .before .before .before .before .before .before .before .look .ensures) ∙ c .before .before .before .before .before .before .look2 .given .1 in
+    step-fits _ _ _ runs (c .before .before .before .step .ensures) (c .before .before .before .before .before .before .before .before .before .before .before .pre))  -- moved-requires
     (λ c. search needs)  -- same-length
-    (λ c. let a = c .before .before .before .before .before .before .before .args in λ o. step-stops (a .self) (a .image .now) o (c .if1 .taken) (c .before .before .before .before .step .ensures))  -- returns
-    (λ c. search needs)  -- cast-moved
-    (λ c κs. search needs)  -- moved-requires
+    (λ c.
+    let a = c .before .before .before .before .before .args in
+    λ o. step-stops (a .self) (lent (a .image .now) o) (sym (c .before .before .look .ensures) ∙ c .enum-told .given .1))  -- returns
     (λ c. search needs)  -- same-length-2
-    (λ c. let a = c .before .before .before .before .before .before .before .before .before .args in λ o. step-goes (a .self) (a .image .now) o (c .before .before .if1 .left) (c .before .before .before .before .before .before .step .ensures) (c .moved .ensures)))  -- returns-2
+    (λ c.
+    let a = c .before .before .before .before .before .before .before .before .before .before .before .before .args in
+    let runs = sym (c .before .before .before .before .before .before .before .before .before .look .ensures) ∙ c .before .before .before .before .before .before .before .look2 .given .1 in
+    λ o. step-goes (a .self) (lent (a .image .now) o) _ runs (c .before .before .before .before .step .ensures) (c .moved .ensures)))  -- returns-2

@@ -1,16 +1,17 @@
 -- Leaps in 01's words, over the boundaries of a run one by one: "A leap is a longest stretch of one or more waiting cycles
 -- (step 5) with no record, sending or interrupt at the boundary where any but the first of them begins."
-use Prim.Native.Nat.{ℕ, _+_, _-_}
+use Prim.Native.Nat.{ℕ}
 use mathlib.Core.Bool.{Bool, true, false, not, cond, _&&_}
-use mathlib.Core.List.{List, [], _∷_, _++_}
-use Rattle.turns.specs.Turn.{Turn, more, done, loopOf}
-use Rattle.session.specs.Session.{dueAt}
+use mathlib.Core.List.{List, [], _∷_}
+use Rattle.turns.specs.Turn.{Turn, more, done}
+use Rattle.turns.specs.Recorded.{rowsOf, countOf}
+use Rattle.registers.specs.Cpu.{idles}
 use Rattle.machine.specs.declared.Machine.{Machine}
 use Rattle.machine.specs.declared.Pending.{Pending}
 use Rattle.machine.specs.declared.Pending.the-variants.{Nothing, Due}
 use Rattle.machine.specs.Interrupts.{pendingOf}
-use Rattle.boundary.specs.declared.State.{State}
-use Rattle.boundary.specs.Boundary.{World, Ended, recordsOf, sendsOf, sentState, boundaryOf}
+use Rattle.boundary.specs.World.{Terms, World, Ended}
+use Rattle.boundary.specs.Boundary.{due, fedWorld, sendsOf, sentState, boundaryOf, cyclesLeft}
 
 -- which of the steps 4, 5 and 6 a boundary takes
 pub data Taken : Type 0 where
@@ -19,11 +20,11 @@ pub data Taken : Type 0 where
   instruction : Taken
 
 abbrev pub stepBy : Pending → Bool → Taken
-stepBy (Due cause) waiting = entry
-stepBy Nothing waiting = cond waiting waitingCycle instruction
+stepBy (Due cause) idle = entry
+stepBy Nothing idle = cond idle waitingCycle instruction
 
 abbrev pub takenBy : Machine → Taken
-takenBy m = stepBy (pendingOf m) (m .chip .cpu .waiting)
+takenBy m = stepBy (pendingOf m) (idles (m .chip .cpu))
 
 -- what a boundary that goes on did: whether a record was applied there, whether a byte was sent there, and its step
 pub record Mark : Type 0 where
@@ -33,28 +34,23 @@ pub record Mark : Type 0 where
 
 unfoldable pub markOf : List ℕ → World → Mark
 markOf session w =
-    let s = recordsOf session (w .image) (w .state) in
+    let s = fedWorld session w .state in
     record {
-      applied = dueAt session (w .state .cycles .0) (w .state .place);
+      applied = due session (w .state);
       sent = sendsOf s;
       taken = takenBy (cond (sendsOf s) (sentState s) s .machine);
     }
 
--- The marks of a run, one for each boundary that goes on: the same boundaries as the run's, with the marks so far beside.
-pub record Traced : Type 0 where
-  pub marks : List Mark
-  pub world : World
+-- The marks of a run, one for each boundary that goes on.
+abbrev pub markIf : Turn World Ended → Mark → List Mark
+markIf (more v) mark = mark ∷ []
+markIf (done e) mark = []
 
-abbrev pub marked : Turn World Ended → List Mark → Mark → Turn Traced (List Mark)
-marked (more v) marks mark = more (record { marks = marks ++ mark ∷ []; world = v })
-marked (done e) marks mark = done marks
+abbrev pub marksAt : Terms → World → List Mark
+marksAt t w = markIf (boundaryOf t w) (markOf (t .session) w)
 
-unfoldable pub tracedTurn : List ℕ → ℕ → Traced → Turn Traced (List Mark)
-tracedTurn session n t = marked (boundaryOf session n (t .world)) (t .marks) (markOf session (t .world))
-
-unfoldable pub traceOf : List ℕ → ℕ → World → List Mark
-traceOf session n w =
-    loopOf (tracedTurn session n) (λ (t : Traced). t .marks) (λ (t : Traced). n - t .world .state .cycles .0) (record { marks = []; world = w })
+unfoldable pub traceOf : Terms → World → List Mark
+traceOf t w = rowsOf (boundaryOf t) (cyclesLeft t) (marksAt t) w
 
 -- "waiting cycles (step 5)"
 abbrev pub isWaiting : Taken → Bool
@@ -99,13 +95,9 @@ abbrev pub groups : List Mark → List (List Mark)
 groups [] = []
 groups (m ∷ ms) = joins m (groups ms)
 
-abbrev pub countOf : {A : Type 0} → (A → Bool) → List A → ℕ
-countOf test [] = 0
-countOf test (x ∷ xs) = cond (test x) 1 0 + countOf test xs
-
 -- "The leaping run reports how many there were."
-unfoldable pub leapsOf : List Mark → ℕ
-leapsOf ms = countOf isStretch (groups ms)
+unfoldable pub stretchesOf : List Mark → ℕ
+stretchesOf ms = countOf isStretch (groups ms)
 
 -- the interrupt entries and the instructions among them
 abbrev pub entriesOf : List Mark → ℕ

@@ -7,9 +7,10 @@ use mathlib.Core.Path.{_≡_, refl, sym, ap, _∙_}
 use lib.ListN.{length, set, take, drop, length-set, take-append-drop}
 use lib.Seq.{length-take-le, take-set-le, drop-set-lt, drop-drop}
 use Rattle.machine.specs.declared.Machine.{Machine}
-use Rattle.boundary.specs.Boundary.{World, Ended, takenOf, sentState, enteredWorld, waitedState, runOf}
+use Rattle.boundary.specs.World.{Lent, Terms, World}
+use Rattle.boundary.specs.Boundary.{recordTaken, sentState, enteredWorld, waitedState, runOf}
 use Rattle.boundary.specs.Start.{startWorld, ranOf}
 use Rattle.boundary.proofs.Keeps.{Keeps, run-holds}
 
 -- An output that was `before` with k bytes sent is now `after` with n: there was room, the length is kept, the bytes sent before
 -- are as they were, and so are those after the n.
@@ -31,39 +32,37 @@ filled-byte before after k n v h p =
       rest = drop-set-lt (n + 1) after n v (omega arith) ∙ sym (drop-drop 1 n after) ∙ ap (drop 1) (h .rest) ∙ drop-drop 1 n before;
     }
 
-filled : (before : List ℕ) (k : ℕ) (session : List ℕ) (n : ℕ) → Keeps session n (λ w. Filled before (w .output) k (w .state .sent .0))
-unfolding takenOf sentState enteredWorld waitedState
-filled before k session n =
+filled : (before : List ℕ) (k : ℕ) (t : Terms) → Keeps t (λ w. Filled before (w .lent .output) k (w .state .sent .0))
+unfolding recordTaken sentState enteredWorld waitedState
+filled before k t =
     record {
       applied = λ w d h. h;
-      sent = λ w l h. filled-byte before (w .output) k (w .state .sent .0) _ h l;
+      sent = λ w l h. filled-byte before (w .lent .output) k (w .state .sent .0) _ h l;
       entered = λ w cause e l h. h;
       waited = λ w f l h. h;
-      stepped = λ w f l h. h;
+      stepped = λ w i f e l h. h;
     }
 
 -- from any world on: no more is sent than there is room for, and no byte changes but those that are sent
-pub run-filled : (session : List ℕ) (n : ℕ) (w : World) → w .state .sent .0 ≤ length (w .output)
-    → let v = runOf session n w .world in Filled (w .output) (v .output) (w .state .sent .0) (v .state .sent .0)
-run-filled session n w h =
-    run-holds session n (λ v. Filled (w .output) (v .output) (w .state .sent .0) (v .state .sent .0)) (filled (w .output) (w .state .sent .0) session n) w
+pub run-filled : (t : Terms) (w : World) → w .state .sent .0 ≤ length (w .lent .output)
+    → let v = runOf t w .world in Filled (w .lent .output) (v .lent .output) (w .state .sent .0) (v .state .sent .0)
+run-filled t w h =
+    run-holds t (λ v. Filled (w .lent .output) (v .lent .output) (w .state .sent .0) (v .state .sent .0))
+    (filled (w .lent .output) (w .state .sent .0) t) w
     (record { more = omega arith; room = h; long = refl; kept = refl; rest = refl })
 
 -- from a start: the sent count is the filled part's length, and the output is the filled part and then the bytes that were there
-pub filled-part : (session : List ℕ) (n : ℕ) (m : Machine) (image output : List ℕ)
-    → let w = ranOf session n m image output .world in
-    (w .state .sent .0 ≤ length output)
-    × (length (w .output) ≡ length output)
-    × (length (take (w .state .sent .0) (w .output)) ≡ w .state .sent .0)
-    × (w .output ≡ take (w .state .sent .0) (w .output) ++ drop (w .state .sent .0) output)
-filled-part session n m image output =
-    let w = ranOf session n m image output .world in
+pub filled-part : (t : Terms) (m : Machine) (l : Lent)
+    → let w = ranOf t m l .world in
+    (w .state .sent .0 ≤ length (l .output))
+    × (length (w .lent .output) ≡ length (l .output))
+    × (length (take (w .state .sent .0) (w .lent .output)) ≡ w .state .sent .0)
+    × (w .lent .output ≡ take (w .state .sent .0) (w .lent .output) ++ drop (w .state .sent .0) (l .output))
+filled-part t m l =
+    let w = ranOf t m l .world in
+    let o = w .lent .output in
     let k = w .state .sent .0 in
-    let f = run-filled session n (startWorld m image output) (omega arith) in
+    let f = run-filled t (startWorld m l) (omega arith) in
     let r = f .room in
-    let l = f .long in (
-      omega arith,
-      l,
-      length-take-le k (w .output) r,
-      sym (take-append-drop k (w .output)) ∙ ap (λ d. take k (w .output) ++ d) (f .rest),
-    )
+    let s = f .long in
+    (omega arith, s, length-take-le k o r, sym (take-append-drop k o) ∙ ap (λ d. take k o ++ d) (f .rest))

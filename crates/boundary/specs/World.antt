@@ -1,0 +1,82 @@
+-- What a run goes through, what it is asked, and how it ends.
+use Prim.Native.Nat.{ℕ, _+_}
+use mathlib.Core.Bool.{Bool}
+use mathlib.Core.List.{List}
+use Rattle.bus.specs.Access.{Memories, memories}
+use Rattle.machine.specs.declared.Machine.{Machine}
+use Rattle.boundary.specs.declared.State.{State}
+use Rattle.boundary.specs.declared.Grown.{Grown}
+use Rattle.boundary.specs.declared.Stop.{Stop}
+use Rattle.boundary.specs.declared.Stop.the-variants.{Limit, Undefined, Full}
+
+-- what a call lends: the image and the output
+pub record Lent : Type 0 where
+  pub image : List ℕ
+  pub output : List ℕ
+
+abbrev pub lent : List ℕ → List ℕ → Lent
+lent image output = record { image = image; output = output }
+
+-- the memories among it that accesses see, and others in their place
+abbrev pub memoriesIn : Lent → Memories
+memoriesIn l = memories (l .image)
+
+abbrev pub withMemories : Lent → Memories → Lent
+withMemories l memory = lent (memory .image) (l .output)
+
+abbrev pub withOutput : Lent → List ℕ → Lent
+withOutput l output = lent (l .image) output
+
+-- what a run is asked: its session and its limit N
+pub record Terms : Type 0 where
+  pub session : List ℕ
+  pub limit : ℕ
+
+abbrev pub terms : List ℕ → ℕ → Terms
+terms session limit = record { session = session; limit = limit }
+
+-- what a run goes through: the machine with the counts, and what was lent
+pub record World : Type 0 where
+  pub state : State
+  pub lent : Lent
+
+abbrev pub worldOf : State → Lent → World
+worldOf s l = record { state = s; lent = l }
+
+pub record Ended : Type 0 where
+  pub stop : Stop
+  pub world : World
+
+abbrev pub endedOf : Stop → World → Ended
+endedOf k w = record { stop = k; world = w }
+
+-- 01's number of each stop
+abbrev pub stopNumber : Stop → ℕ
+stopNumber Limit = 0
+stopNumber Undefined = 8
+stopNumber Full = 9
+
+-- how far the counts of cycles, instructions, entries and leaps have grown
+abbrev pub grown : ℕ → ℕ → ℕ → ℕ → Grown
+grown cycles instructions entries leaps =
+    record {
+      cycles = record { 0 = cycles };
+      instructions = record { 0 = instructions };
+      entries = record { 0 = entries };
+      leaps = record { 0 = leaps };
+    }
+
+-- the machine is m, and the counts have grown
+abbrev pub grownTo : State → Machine → Grown → Bool → State
+grownTo s m by inside =
+    record {
+      machine = m;
+      place = s .place;
+      used = s .used;
+      cycles = record { 0 = s .cycles .0 + by .cycles .0 };
+      instructions = record { 0 = s .instructions .0 + by .instructions .0 };
+      entries = record { 0 = s .entries .0 + by .entries .0 };
+      sent = s .sent;
+      leaps = record { 0 = s .leaps .0 + by .leaps .0 };
+      inside = inside;
+    }
