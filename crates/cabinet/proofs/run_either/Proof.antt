@@ -3,11 +3,11 @@ use mathlib.Core.Path.{ap, _∙_}
 use Rattle.boundary.specs.World.{lent}
 use Rattle.cabinet.specs.declared.Ran.{Ran}
 use Rattle.cabinet.specs.Answers.{End, answered, answerAt}
-use Rattle.cabinet.proofs.run_leaping.Statement.{statement}
-use Rattle.cabinet.proofs.run_leaping.Tie as tie
+use Rattle.cabinet.proofs.run_either.Statement.{statement}
+use Rattle.cabinet.proofs.run_either.Tie as tie
 
-pub run-leaping-spec : {M : Type 1} → statement M
-run-leaping-spec =
+pub run-either-spec : {M : Type 1} → statement M
+run-either-spec =
     tie.close
     (tie.spec
     (λ c κs. search needs)  -- end-requires
