@@ -2,13 +2,20 @@
 use Prim.Native.Nat.{ℕ, _≤_, _<_}
 use native.Mathlib.Omega.{arith}
 use mathlib.Core.List.{List, _++_}
-use mathlib.Core.Option.{some}
+use mathlib.Core.Option.{some, Option·getD}
 use mathlib.Core.Path.{_≡_, sym, ap, _∙_}
 use lib.ListN.{length, take, drop}
 use lib.Seq.{take-all}
 use borrow.Author.Tests.{eq-eqb, ne-eqb, lt-ltb, le-ltb}
 use Rattle.laws.proofs.Conds.{picks, passes}
+use Rattle.numbers.specs.Numbers.{over}
+use Rattle.session.specs.declared.Fault.{Fault}
+use Rattle.session.specs.Session.{faultNumber}
+use Rattle.replies.specs.declared.Reply.{Reply}
+use Rattle.replies.specs.Replies.{Told, toldReply, toldFault}
+use Rattle.opcodes.specs.declared.Instruction.{Instruction}
 use Rattle.opcodes.specs.declared.Decoded.{Decoded}
+use Rattle.opcodes.specs.declared.Decoded.the-variants.{Defined}
 use Rattle.machine.specs.declared.Machine.{Machine}
 use Rattle.machine.specs.declared.Power.{Power}
 use Rattle.asking.specs.Asking.{toldDecoded, opcodeAnswer}
@@ -16,7 +23,9 @@ use Rattle.power.specs.Power.{toldPower, powerAnswer}
 use Rattle.saved.specs.Layout.{savedOf}
 use Rattle.saved.specs.Answers.{leftOf}
 use Rattle.rest.specs.declared.Rested.{Rested}
+use Rattle.rest.specs.declared.Rested.the-variants.{Bad}
 use Rattle.rest.specs.Answers.{toldRest, restAnswer, restBuffer}
+use Rattle.board_numbers.specs.Numbers.{instructionBytes}
 use Rattle.board_calls.specs.Calls.{wrote, onPower, powerCall, onAsk, askCall, rested, namedIn, onRest, restCall}
 
 -- power-on
@@ -44,6 +53,13 @@ module _ (opcode : ℕ) (answer : List ℕ) where
   unfolding askCall
   asked i h e f = sym (passes _ _ (le-ltb _ _ h) ∙ ap (onAsk answer) (sym e ∙ ap toldDecoded f))
 
+  -- an instruction's six numbers, copied into the answer
+  pub asked-copied : {d : Decoded} (i : Instruction) {six left : List ℕ} → 6 ≤ length answer → toldDecoded d ≡ opcodeAnswer opcode → d ≡ Defined i
+      → six ≡ instructionBytes i → left ≡ take (length six) six ++ drop (length six) answer → wrote 0 left ≡ askCall opcode answer
+  asked-copied i {six} h e f g l =
+      let whole = ap (λ (b : List ℕ). b ++ drop (length six) answer) (take-all (length six) six (omega arith)) in
+      ap (wrote 0) (l ∙ whole ∙ ap (λ (b : List ℕ). over b answer) g) ∙ asked (Defined i) h e f
+
 -- the rest of a session
 module _ (session : List ℕ) (used cycles : ℕ) (buffer result : List ℕ) where
   pub rest-short : length result < 8 → rested 29 buffer result ≡ restCall session used cycles buffer result
@@ -62,3 +78,12 @@ module _ (session : List ℕ) (used cycles : ℕ) (buffer result : List ℕ) whe
 pub rest-told : (left result : List ℕ) (n j : ℕ) {k : ℕ} {r : List ℕ} → (k ≡ j) × (r ≡ namedIn (some n) result)
     → rested k left r ≡ rested j left (namedIn (some n) result)
 rest-told left result n j {k} {r} e = λ i. rested (e .0 i) left (e .1 i)
+
+-- a session's fault told there
+pub rest-refused : (left result : List ℕ) (f : Fault) (refusal : Reply) {n j k : ℕ} {r : List ℕ} → toldReply refusal ≡ toldFault f
+    → n ≡ toldReply refusal .number → j ≡ Option·getD (toldReply refusal .named) 0 → (k ≡ n) × (r ≡ namedIn (some j) result)
+    → rested k left r ≡ onRest left result (toldRest (Bad f))
+rest-refused left result f refusal {n} {j} t p q e =
+    rest-told left result j n e
+    ∙ ap (λ (n : ℕ). rested n left (namedIn (some j) result)) (p ∙ ap (λ (x : Told). x .number) t)
+    ∙ ap (λ (j : ℕ). rested (faultNumber f) left (namedIn (some j) result)) (q ∙ ap (λ (x : Told). Option·getD (x .named) 0) t)
