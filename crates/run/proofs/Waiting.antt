@@ -96,6 +96,10 @@ pub not-due : (p : Pending) → isDue p ≡ false → p ≡ Nothing
 not-due Nothing e = refl
 not-due (Due k) e = absurd (true≢false e)
 
+-- within a wait, as the code tells it
+pub waits : (s : State) {idle b : Bool} → idle ≡ idles (s .machine .chip .cpu) → (s .inside && idle) ≡ b → (s .inside && idles (s .machine .chip .cpu)) ≡ b
+waits s e f = ap (λ (i : Bool). s .inside && i) (sym e) ∙ f
+
 -- j waiting cycles more
 abbrev pub still : State → ℕ → State
 still s j = grownTo s (passedOf j (s .machine)) (grown j 0 0 0) true
