@@ -19,8 +19,8 @@ use Rattle.saved.specs.Layout.{savedOf}
 use Rattle.saved.specs.Answers.{leftOf, gives, toldLoaded, loadOf}
 use Rattle.saved.proofs.Exactly.{load-gives}
 use Rattle.board_results.specs.declared.Counted.{Counted}
-use Rattle.board_results.specs.Results.{toldCounts, noCounts, recordSize, recordBytes}
-use Rattle.board.specs.Board.{Buffers, buffers, Called, called, countsOf, countedOf, reported, unfitReply, refusedCall, ranCall, onLoad, runCall}
+use Rattle.board_results.specs.Results.{toldCounts, noCounts, recordSize, recordBytes, unfitReply}
+use Rattle.board.specs.Board.{Buffers, buffers, Called, called, countsOf, countedOf, reported, refusedCall, ranCall, onLoad, runCall}
 
 module _ (leaping : Bool) (t : Terms) (b : Buffers) where
   pub run-short : {size : ℕ} → size ≡ recordSize leaping → length (b .result) < size → called 29 b ≡ runCall leaping t b

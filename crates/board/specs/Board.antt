@@ -16,7 +16,7 @@ use Rattle.cabinet.specs.Answers.{Answer, answerOf, leapsOf}
 use Rattle.saved.specs.Layout.{savedOf}
 use Rattle.saved.specs.Answers as load
 use Rattle.board_results.specs.declared.Counted.{Counted}
-use Rattle.board_results.specs.Results.{Counts, counts, noCounts, recordSize, recordBytes}
+use Rattle.board_results.specs.Results.{Counts, counts, noCounts, recordSize, recordBytes, unfitReply}
 
 -- what a run is lent to write: the saved machine, what it runs on, and the result
 pub record Buffers : Type 0 where
@@ -52,10 +52,6 @@ abbrev pub ranCall : Bool → Terms → Buffers → Machine → Called
 ranCall leaping t b m =
     let a = answerOf t m (b .lent) in
     reported leaping (a .reply) (countsOf a) (leapsOf t m (b .lent)) (buffers (savedOf (a .machine)) (a .lent) (b .result))
-
--- a machine outside its ranges: 2, and "1, 2, 3 are tested in that order"
-abbrev pub unfitReply : List ℕ → ℕ
-unfitReply image = cond (eqb (length image) 65536) 2 1
 
 -- a refusal to load: 2 is refused as a run refuses it; any other writes nothing
 abbrev pub refusedCall : Bool → Buffers → ℕ → Called

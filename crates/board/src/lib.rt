@@ -9,7 +9,7 @@ ghost use mathlib.Core.Path.{_≡_};
 ghost use mathlib.Core.Bool.{true, false};
 ghost use Rattle.boundary.specs.World.{lent, terms};
 ghost use Rattle.board_calls.specs.Calls.{wrote, powerCall, askCall, rested, restCall};
-ghost use Rattle.board.specs.Board.{countedOf, buffers, called, unfitReply, runCall, singleCall, leapingCall};
+ghost use Rattle.board.specs.Board.{countedOf, buffers, called, runCall, singleCall, leapingCall};
 
 // Power-on into a saved machine.
 #[no_mangle]
@@ -60,13 +60,6 @@ fn counted(ran: Ran) -> Counted
     }
 }
 
-// The reply to a machine outside its ranges: the image is tested first.
-fn unfit(image: &[u8]) -> u32
-    ensures { λ r. ⌜ r ≡ unfitReply (now (image .entry)) ⌝ }
-{
-    if image.len() == 65536 { 2 } else { 1 }
-}
-
 // Either run of a saved machine, which is saved again where it was.
 fn run_call(
     leaping: bool,
@@ -101,7 +94,7 @@ fn run_call(
         Loaded::WrongVersion => 27,
         Loaded::NoMachine => 28,
         Loaded::WrongMachine => {
-            let number = unfit(&image[..]);
+            let number = board_results::unfit(&image[..]);
             board_results::refuse(leaping, number, result);
             number
         }

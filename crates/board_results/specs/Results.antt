@@ -3,6 +3,8 @@ use Prim.Native.Nat.{ℕ}
 use mathlib.Core.Bool.{Bool, cond}
 use mathlib.Core.List.{List, _++_}
 use mathlib.Core.Option.{Option·getD}
+use lib.Dec.{eqb}
+use lib.ListN.{length}
 use Rattle.numbers.specs.Numbers.{littleEndian}
 use Rattle.replies.specs.Replies.{Told}
 use Rattle.board_results.specs.declared.Counted.{Counted}
@@ -49,3 +51,7 @@ withLeaps leaping leaps bytes = cond leaping (bytes ++ littleEndian 4 leaps) byt
 
 abbrev pub recordBytes : Bool → Told → Counts → ℕ → List ℕ
 recordBytes leaping t c leaps = withLeaps leaping leaps (singleBytes t c)
+
+-- a machine outside its ranges: 2, and "1, 2, 3 are tested in that order"
+abbrev pub unfitReply : List ℕ → ℕ
+unfitReply image = cond (eqb (length image) 65536) 2 1

@@ -12,7 +12,7 @@ ghost use Prim.Native.Nat.{_≤_};
 ghost use lib.ListN.{length};
 ghost use Rattle.numbers.specs.Numbers.{over};
 ghost use Rattle.replies.specs.Replies.{told, toldReply};
-ghost use Rattle.board_results.specs.Results.{toldCounts, noCounts, headBytes, resultBytes, withLeaps, recordSize, recordBytes};
+ghost use Rattle.board_results.specs.Results.{toldCounts, noCounts, headBytes, resultBytes, withLeaps, recordSize, recordBytes, unfitReply};
 
 // The counts that both runs report.
 pub struct Counted {
@@ -81,6 +81,13 @@ pub fn report(leaping: bool, reply: Reply, counted: Counted, leaps: Leaps, resul
     let named = reply.record();
     record(leaping, number, named, counted, leaps, result);
     number
+}
+
+// The reply to a machine outside its ranges: the image is tested first.
+pub fn unfit(image: &[u8]) -> u32
+    ensures { λ r. ⌜ r ≡ unfitReply (now (image .entry)) ⌝ }
+{
+    if image.len() == 65536 { 2 } else { 1 }
 }
 
 // The record of a refusal that names no record: all counts zero.

@@ -15,8 +15,8 @@ use Rattle.boundary.specs.World.{Terms}
 use Rattle.saved.specs.Layout.{machineIn}
 use Rattle.saved.specs.Answers.{loadOf, gives, replies}
 use Rattle.saved.proofs.Answers.{load-cases}
-use Rattle.board_results.specs.Results.{noCounts, recordSize}
-use Rattle.board.specs.Board.{Buffers, Called, called, reported, unfitReply, ranCall, onLoad, runCall}
+use Rattle.board_results.specs.Results.{noCounts, recordSize, unfitReply}
+use Rattle.board.specs.Board.{Buffers, Called, called, reported, ranCall, onLoad, runCall}
 
 -- a machine outside its ranges gets 1 or 2
 pub unfit-small : (image : List ℕ) → (1 ≤ unfitReply image) × (unfitReply image ≤ 2)

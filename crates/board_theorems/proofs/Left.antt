@@ -27,10 +27,10 @@ use Rattle.saved.specs.Answers.{Given, gives, replies, loadOf}
 use Rattle.saved.proofs.Back.{Bytes, load-then-save}
 use Rattle.saved.proofs.Kept.{save-then-load}
 use Rattle.saved.proofs.Exactly.{loaded-ranges}
-use Rattle.board_results.specs.Results.{Counts, noCounts, recordSize, recordBytes}
+use Rattle.board_results.specs.Results.{Counts, noCounts, recordSize, recordBytes, unfitReply}
 use Rattle.board_results.proofs.Laws.{result-long}
 use Rattle.board_calls.specs.Calls.{wrote, onPower, powerCall}
-use Rattle.board.specs.Board.{Buffers, Called, called, countsOf, reported, unfitReply, onLoad, runCall, singleCall, leapingCall}
+use Rattle.board.specs.Board.{Buffers, Called, called, countsOf, reported, onLoad, runCall, singleCall, leapingCall}
 use Rattle.board_theorems.proofs.Ends.{unfit-small, call-cases}
 
 -- power-on into 42 bytes, of a whole image and an R that fits: the saved machine is the one that reset makes, and a run loads it

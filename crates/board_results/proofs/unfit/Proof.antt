@@ -1,9 +1,9 @@
--- `board::unfit` meets its contract. Assumes nothing.
+-- `board_results::unfit` meets its contract. Assumes nothing.
 use mathlib.Core.Path.{sym}
 use borrow.Author.Tests.{eq-eqb, ne-eqb}
-use Rattle.boundary.proofs.Picks.{picks, passes}
-use Rattle.board.proofs.unfit.Statement.{statement}
-use Rattle.board.proofs.unfit.Tie as tie
+use Rattle.laws.proofs.Conds.{picks, passes}
+use Rattle.board_results.proofs.unfit.Statement.{statement}
+use Rattle.board_results.proofs.unfit.Tie as tie
 
 pub unfit-spec : {M : Type 1} → statement M
 unfit-spec =
