@@ -100,8 +100,12 @@ static int run_night(uint8_t *machine) {
         size_t length = session_of(next, now, end, session);
         uint32_t reply = pliruzza_run_leaping(image, sizeof image, machine, PLIRUZZA_MACHINE, session, length,
                                               (uint32_t)(end - now), output, sizeof output, result, sizeof result);
-        uint64_t sent = number_at(result + 24, 8);
         printf("hour %d reply %u", slice, (unsigned)reply);
+        if (reply != 0) {
+            printf("\n");
+            return 1;
+        }
+        uint64_t sent = number_at(result + 24, 8);
         show("cycles", result + 4, 4);
         show("instr", result + 8, 4);
         show("entries", result + 12, 4);
@@ -110,7 +114,6 @@ static int run_night(uint8_t *machine) {
         show("leaps", result + 40, 4);
         if (sent) show_bytes("out", output, sent);
         printf("\n");
-        if (reply != 0) return 1;
         now += number_at(result + 4, 4);
         next += number_at(result + 16, 8);
     }
@@ -137,9 +140,9 @@ static void lend(struct lent *l, const uint8_t *machine) {
     memcpy(l->machine, machine, PLIRUZZA_MACHINE);
 }
 
-static void run_leaping(struct lent *l, const uint8_t *session, size_t length, uint32_t n, size_t sent) {
-    pliruzza_run_leaping(l->image, PLIRUZZA_IMAGE, l->machine, PLIRUZZA_MACHINE, session, length, n, l->output + sent,
-                         sizeof l->output - sent, l->result, PLIRUZZA_LEAPING);
+static uint32_t run_leaping(struct lent *l, const uint8_t *session, size_t length, uint32_t n, size_t sent) {
+    return pliruzza_run_leaping(l->image, PLIRUZZA_IMAGE, l->machine, PLIRUZZA_MACHINE, session, length, n, l->output + sent,
+                                sizeof l->output - sent, l->result, PLIRUZZA_LEAPING);
 }
 
 static const char *alike(const struct lent *a, const struct lent *b) {
@@ -151,26 +154,29 @@ static const char *alike(const struct lent *a, const struct lent *b) {
 
 /* Both runs of the stretch from one start, and the leaping run of it in two slices, of which the first stops within the
  * first byte's handler: 4 + 3 + 3 cycles after 2,000, two late. They leave the same image, machine and output. */
-static void compare_runs(const uint8_t *machine) {
+static int compare_runs(const uint8_t *machine) {
     static struct lent single, leaping, sliced;
     uint8_t rest[sizeof stretch], told[PLIRUZZA_REST];
     lend(&single, machine);
     lend(&leaping, machine);
     lend(&sliced, machine);
-    pliruzza_run_single(single.image, PLIRUZZA_IMAGE, single.machine, PLIRUZZA_MACHINE, stretch, sizeof stretch, STRETCH,
-                        single.output, sizeof single.output, single.result, PLIRUZZA_SINGLE);
-    run_leaping(&leaping, stretch, sizeof stretch, STRETCH, 0);
+    if (pliruzza_run_single(single.image, PLIRUZZA_IMAGE, single.machine, PLIRUZZA_MACHINE, stretch, sizeof stretch, STRETCH,
+                            single.output, sizeof single.output, single.result, PLIRUZZA_SINGLE) != 0)
+        return 1;
+    if (run_leaping(&leaping, stretch, sizeof stretch, STRETCH, 0) != 0) return 1;
     printf("single and leaping %s", alike(&single, &leaping));
     show_bytes("results", single.result, PLIRUZZA_LEAPING);
     show_bytes("and", leaping.result, PLIRUZZA_LEAPING);
     printf("\n");
-    run_leaping(&sliced, stretch, sizeof stretch, 2008, 0);
+    if (run_leaping(&sliced, stretch, sizeof stretch, 2008, 0) != 0) return 1;
     uint32_t cycles = (uint32_t)number_at(sliced.result + 4, 4);
     size_t used = (size_t)number_at(sliced.result + 16, 8), sent = (size_t)number_at(sliced.result + 24, 8);
     uint32_t reply = pliruzza_rest(stretch, sizeof stretch, used, cycles, rest, sizeof rest, told, sizeof told);
+    if (reply != 0) return 1;
     printf("after %u cycles: rest %u of %u bytes,", (unsigned)cycles, (unsigned)reply, (unsigned)number_at(told, 8));
-    run_leaping(&sliced, rest, (size_t)number_at(told, 8), STRETCH - cycles, sent);
+    if (run_leaping(&sliced, rest, (size_t)number_at(told, 8), STRETCH - cycles, sent) != 0) return 1;
     printf(" then %u cycles, %s\n", (unsigned)number_at(sliced.result + 4, 4), alike(&sliced, &leaping));
+    return 0;
 }
 
 static void refuse_rest(size_t length, size_t used, size_t rest_length, size_t told_length) {
@@ -211,15 +217,18 @@ static const struct wrong wrongs[] = {
 };
 
 static void refuse(const struct wrong *w) {
-    uint8_t machine[PLIRUZZA_MACHINE], before[PLIRUZZA_MACHINE];
+    static uint8_t image_before[PLIRUZZA_IMAGE];
+    uint8_t machine[PLIRUZZA_MACHINE], machine_before[PLIRUZZA_MACHINE];
     uint8_t output[4] = {1, 2, 3, 4}, result[PLIRUZZA_LEAPING];
     memset(result, 0xEE, sizeof result);
     pliruzza_power_on(image, sizeof image, 0xF000, machine, sizeof machine);
     if (w->byte >= 0) machine[w->byte] = w->value;
-    memcpy(before, machine, sizeof machine);
+    memcpy(machine_before, machine, sizeof machine);
+    memcpy(image_before, image, sizeof image);
     uint32_t reply = pliruzza_run_leaping(image, w->image, machine, w->machine, (const uint8_t *)w->session, w->length, w->n,
                                           output, sizeof output, result, w->result);
-    int kept = !memcmp(machine, before, sizeof machine) && !memcmp(output, "\1\2\3\4", 4);
+    int kept = !memcmp(image, image_before, sizeof image) && !memcmp(machine, machine_before, sizeof machine)
+               && !memcmp(output, "\1\2\3\4", 4);
     printf("%s: %u%s", w->what, (unsigned)reply, kept ? "" : " CHANGED");
     if (result[0] == 0xEE) printf(" nothing written\n");
     else printf(" record %llu\n", (unsigned long long)number_at(result + 32, 8));
@@ -245,7 +254,7 @@ int main(void) {
     power_on(sizeof image, 65537, machine, sizeof machine);
     power_on(sizeof image, 0xF000, machine, sizeof machine);
     if (run_night(machine)) return 1;
-    compare_runs(machine);
+    if (compare_runs(machine)) return 1;
     for (size_t i = 0; i < sizeof wrongs / sizeof wrongs[0]; i++) refuse(&wrongs[i]);
     refuse_rest(sizeof stretch, 1, sizeof stretch, 7);
     refuse_rest(18, 1, sizeof stretch, 8);

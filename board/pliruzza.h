@@ -37,7 +37,7 @@ extern "C" {
 
 enum {
     PLIRUZZA_IMAGE = 65536,   /* bytes of an image: the whole address space */
-    PLIRUZZA_MACHINE = 42,    /* bytes of a saved machine (docs/SAVED.md) */
+    PLIRUZZA_MACHINE = 42,    /* bytes of a saved machine (docs/FORMATS.md) */
     PLIRUZZA_SINGLE = 40,     /* bytes of the single run's result */
     PLIRUZZA_LEAPING = 44,    /* bytes of the leaping run's result */
     PLIRUZZA_REST = 8,        /* bytes of the result of the rest of a session */

@@ -1,5 +1,5 @@
 #!/usr/bin/env python3
-"""Makes the rows of the program `corners` and the answers that 01 gives, from docs/CORNERS.md.
+"""Makes the rows of the program `corners` and the answers that 01 gives, from docs/CASES.md.
 
     python3 tools/corners.py        writes crates/corners/stdin and crates/corners/stdout
 
@@ -129,7 +129,7 @@ def registers():
 
 
 def singles():
-    with open("docs/CORNERS.md") as page:
+    with open("docs/CASES.md") as page:
         for line in page:
             cells = [cell.strip() for cell in line.strip().strip("|").split("|")]
             if len(cells) == 6 and cells[2].isdigit():

@@ -1,126 +1,74 @@
--- What each C call leaves, for all inputs: the number that it returns, and every byte of what it is lent to write.
+-- What each C run leaves, for all inputs: the number that it returns, and every byte of what it is lent to write.
 -- Beside 01's replies: 26 a saved machine that is not 42 bytes, 27 its version is another, 28 its bytes stand for no machine (crates/saved);
--- 29 a buffer for a record is too short; 30 and 31 as crates/rest says. A call that returns 26 or above writes nothing.
+-- 29 a buffer for a record is too short. A call that returns 26 or above writes nothing. The other C calls: crates/board_calls.
 use Prim.Native.Nat.{ℕ}
-use mathlib.Core.Bool.{cond}
+use mathlib.Core.Bool.{Bool, true, false, cond}
 use mathlib.Core.List.{List}
-use mathlib.Core.Option.{Option, none, some}
+use mathlib.Core.Option.{none}
 use lib.Dec.{eqb, ltb}
 use lib.ListN.{length}
-use Rattle.opcodes.specs.declared.Instruction.{Instruction}
+use Rattle.numbers.specs.Numbers.{over}
+use Rattle.replies.specs.Replies.{Told, told}
 use Rattle.machine.specs.declared.Machine.{Machine}
-use Rattle.cabinet.specs.Replies.{Told, told, Given, gives, replies}
-use Rattle.cabinet.specs.Answers.{answerOf, leapsOf, powerAnswer, opcodeAnswer}
+use Rattle.boundary.specs.World.{Lent, Terms}
+use Rattle.cabinet.specs.declared.Ran.{Ran}
+use Rattle.cabinet.specs.Answers.{Answer, answerOf, leapsOf}
 use Rattle.saved.specs.Layout.{savedOf}
 use Rattle.saved.specs.Answers as load
-use Rattle.board_numbers.specs.Numbers.{instructionBytes}
-use Rattle.rest.specs.Answers as rest
-use Rattle.results.specs.Bytes.{littleEndian, over}
-use Rattle.results.specs.Results.{Counts, countsOf, noCounts, singleBytes, leapingBytes}
+use Rattle.board_results.specs.declared.Counted.{Counted}
+use Rattle.board_results.specs.Results.{Counts, counts, noCounts, recordSize, recordBytes, unfitReply}
 
--- what power-on and the question about an opcode return, and the one buffer that each is lent to write
-pub record Wrote : Type 0 where
-  pub number : ℕ
-  pub bytes : List ℕ
-
-abbrev pub wrote : ℕ → List ℕ → Wrote
-wrote number bytes = record { number = number; bytes = bytes }
-
--- power-on: 26 where the buffer for the saved machine is not 42 bytes; then 1 or 2, or 0 and the saved machine
-abbrev pub onPower : List ℕ → Given Machine → Wrote
-onPower machine (gives m) = wrote 0 (savedOf m)
-onPower machine (replies k) = wrote k machine
-
-unfoldable pub powerCall : List ℕ → ℕ → List ℕ → Wrote
-powerCall image r machine = cond (eqb (length machine) 42) (onPower machine (powerAnswer image r)) (wrote 26 machine)
-
--- the question: 29 where the buffer has less than 6 bytes; then 8, or 0 and the instruction's six numbers
-abbrev pub onAsk : List ℕ → Given Instruction → Wrote
-onAsk answer (gives i) = wrote 0 (over (instructionBytes i) answer)
-onAsk answer (replies k) = wrote k answer
-
-unfoldable pub askCall : ℕ → List ℕ → Wrote
-askCall opcode answer = cond (ltb (length answer) 6) (wrote 29 answer) (onAsk answer (opcodeAnswer opcode))
-
--- what a run is lent to write
-pub record Lent : Type 0 where
-  pub image : List ℕ
+-- what a run is lent to write: the saved machine, what it runs on, and the result
+pub record Buffers : Type 0 where
   pub machine : List ℕ
-  pub output : List ℕ
+  pub lent : Lent
   pub result : List ℕ
 
-abbrev pub lent : List ℕ → List ℕ → List ℕ → List ℕ → Lent
-lent image machine output result = record { image = image; machine = machine; output = output; result = result }
+abbrev pub buffers : List ℕ → Lent → List ℕ → Buffers
+buffers machine lent result = record { machine = machine; lent = lent; result = result }
 
 -- what a run returns, and what it leaves there
 pub record Called : Type 0 where
   pub number : ℕ
-  pub left : Lent
+  pub left : Buffers
 
-abbrev pub called : ℕ → Lent → Called
+abbrev pub called : ℕ → Buffers → Called
 called number left = record { number = number; left = left }
 
--- the bytes of a result record, from a reply, the counts that both runs report, and the leaps
-abbrev pub Form : Type 0
-Form = Told → Counts → ℕ → List ℕ
+-- the counts that an answer reports, and those of the code's result
+abbrev pub countsOf : Answer → Counts
+countsOf a = counts (a .cycles) (a .instructions) (a .entries) (a .used) (a .sent)
+
+abbrev pub countedOf : Ran → Counted
+countedOf r =
+    record { cycles = r .cycles; instructions = r .instructions; entries = r .entries; used = r .used; sent = r .sent }
 
 -- a reply with its record in the lent buffer
-abbrev pub reported : Form → Told → Counts → ℕ → Lent → Called
-reported form t c leaps l = called (t .number) (lent (l .image) (l .machine) (l .output) (over (form t c leaps) (l .result)))
+abbrev pub reported : Bool → Told → Counts → ℕ → Buffers → Called
+reported leaping t c leaps b = called (t .number) (buffers (b .machine) (b .lent) (over (recordBytes leaping t c leaps) (b .result)))
 
 -- the machine is run, and saved where it was
-abbrev pub ranCall : Form → Lent → List ℕ → ℕ → Machine → Called
-ranCall form l session n m =
-    let a = answerOf (l .image) m session n (l .output) in
-    reported form (a .reply) (countsOf a) (leapsOf (l .image) m session n (l .output)) (lent (a .image) (savedOf (a .machine)) (a .output) (l .result))
-
--- a machine outside its ranges: 2, and "1, 2, 3 are tested in that order"
-abbrev pub unfitReply : List ℕ → ℕ
-unfitReply image = cond (eqb (length image) 65536) 2 1
+abbrev pub ranCall : Bool → Terms → Buffers → Machine → Called
+ranCall leaping t b m =
+    let a = answerOf t m (b .lent) in
+    reported leaping (a .reply) (countsOf a) (leapsOf t m (b .lent)) (buffers (savedOf (a .machine)) (a .lent) (b .result))
 
 -- a refusal to load: 2 is refused as a run refuses it; any other writes nothing
-abbrev pub refusedCall : Form → Lent → ℕ → Called
-refusedCall form l k = cond (eqb k 2) (reported form (told (unfitReply (l .image)) none) noCounts 0 l) (called k l)
+abbrev pub refusedCall : Bool → Buffers → ℕ → Called
+refusedCall leaping b k = cond (eqb k 2) (reported leaping (told (unfitReply (b .lent .image)) none) noCounts 0 b) (called k b)
 
-abbrev pub onLoad : Form → Lent → List ℕ → ℕ → load.Given → Called
-onLoad form l session n (load.gives m) = ranCall form l session n m
-onLoad form l session n (load.replies k) = refusedCall form l k
+abbrev pub onLoad : Bool → Terms → Buffers → load.Given → Called
+onLoad leaping t b (load.gives m) = ranCall leaping t b m
+onLoad leaping t b (load.replies k) = refusedCall leaping b k
 
--- a run whose record has so many bytes: 29; then 26, 27, 28; then 01's replies in 01's order
-abbrev pub runCall : ℕ → Form → Lent → List ℕ → ℕ → Called
-runCall size form l session n =
-    cond (ltb (length (l .result)) size) (called 29 l) (onLoad form l session n (load.loadOf (l .machine)))
+-- a run: 29; then 26, 27, 28; then 01's replies in 01's order
+unfoldable pub runCall : Bool → Terms → Buffers → Called
+runCall leaping t b =
+    cond (ltb (length (b .result)) (recordSize leaping)) (called 29 b) (onLoad leaping t b (load.loadOf (b .machine)))
 
--- the single run tells no leaps
-abbrev pub single : Form
-single t c leaps = singleBytes t c
+-- both runs: the leaping run's record tells the leaps besides
+abbrev pub singleCall : Terms → Buffers → Called
+singleCall = runCall false
 
-unfoldable pub singleCall : Lent → List ℕ → ℕ → Called
-singleCall = runCall 40 single
-
-unfoldable pub leapingCall : Lent → List ℕ → ℕ → Called
-leapingCall = runCall 44 leapingBytes
-
--- what the rest of a session returns, and the two buffers that it is lent to write
-pub record Rest : Type 0 where
-  pub number : ℕ
-  pub rest : List ℕ
-  pub result : List ℕ
-
-abbrev pub rested : ℕ → List ℕ → List ℕ → Rest
-rested number rest result = record { number = number; rest = rest; result = result }
-
--- the result's 8 bytes tell the rest's length, or the record that 4 to 7 name
-abbrev pub namedIn : Option ℕ → List ℕ → List ℕ
-namedIn none result = result
-namedIn (some k) result = over (littleEndian 8 k) result
-
-abbrev pub onRest : List ℕ → List ℕ → rest.Answer → Rest
-onRest buffer result (rest.wrote length) = rested 0 buffer (over (littleEndian 8 length) result)
-onRest buffer result (rest.refuses t) = rested (t .number) buffer (namedIn (t .named) result)
-
--- the rest of a session: 29 where the result has less than 8 bytes; then 4 to 7, 30 or 31, or 0 and the rest
-unfoldable pub restCall : List ℕ → ℕ → ℕ → List ℕ → List ℕ → Rest
-restCall session used cycles buffer result =
-    cond (ltb (length result) 8) (rested 29 buffer result)
-    (onRest (rest.restBuffer session used cycles buffer) result (rest.restAnswer session used cycles buffer))
+abbrev pub leapingCall : Terms → Buffers → Called
+leapingCall = runCall true

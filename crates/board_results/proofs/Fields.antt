@@ -1,11 +1,12 @@
 -- Where the fields of a result record stand; that a field's bytes tell its number is `told-back` of numbers. Assumes nothing.
 use Prim.Native.Nat.{ℕ}
+use mathlib.Core.Bool.{true}
 use mathlib.Core.List.{List}
 use mathlib.Core.Path.{_≡_, refl}
 use lib.ListN.{take, drop}
-use Rattle.cabinet.specs.Replies.{Told}
+use Rattle.replies.specs.Replies.{Told}
 use Rattle.numbers.specs.Numbers.{littleEndian}
-use Rattle.results.specs.Results.{Counts, resultBytes, singleBytes, leapingBytes}
+use Rattle.board_results.specs.Results.{Counts, headBytes, resultBytes, recordBytes}
 
 -- so many bytes of a record from a place on
 pub field : List ℕ → ℕ → ℕ → List ℕ
@@ -20,10 +21,10 @@ pub fields : (reply named : ℕ) (c : Counts) → let r = resultBytes reply name
     × (field r 16 8 ≡ littleEndian 8 (c .used))
     × (field r 24 8 ≡ littleEndian 8 (c .sent))
     × (field r 32 8 ≡ littleEndian 8 named)
-unfolding field resultBytes littleEndian
+unfolding field headBytes resultBytes littleEndian
 fields reply named c = (refl, refl, refl, refl, refl, refl, refl)
 
--- the leaps of the leaping run's
-pub leaps-field : (t : Told) (c : Counts) (leaps : ℕ) → field (leapingBytes t c leaps) 40 4 ≡ littleEndian 4 leaps
-unfolding field resultBytes littleEndian
+-- and the leaps, of the leaping run's
+pub leaps-field : (t : Told) (c : Counts) (leaps : ℕ) → field (recordBytes true t c leaps) 40 4 ≡ littleEndian 4 leaps
+unfolding field headBytes resultBytes littleEndian
 leaps-field t c leaps = refl

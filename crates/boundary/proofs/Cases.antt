@@ -32,25 +32,26 @@ use Rattle.boundary.specs.declared.Stop.the-variants as stops
 use Rattle.laws.proofs.Conds.{picks, passes}
 use Rattle.boundary.proofs.Feeding.{records-keep}
 
-few : (s : State) (e : Moved) {k : ℕ} → Ready s → e .cycles .0 ≡ k → k ≤ 12 → (i n : ℕ) → i ≤ 1 → n ≤ 1 → Fits s (grown (e .cycles .0) i n 0)
-few s e h p q i n a b =
+-- an entry and an instruction take at most 12 cycles, so that there is room for them in the counts
+pub entry-most : (cause : Cause) (memory : Memories) (m : Machine) → enteredOf cause memory m .cycles ≤ 12
+entry-most cause memory m = ⊎-elim (λ e. omega arith) (λ e. omega arith) (entered-cycles cause memory m)
+
+few-fit : {s : State} {k i n : ℕ} → Ready s → k ≤ 12 → i ≤ 1 → n ≤ 1 → Fits s (grown k i n 0)
+few-fit h q a b =
     let x = h .0 .instructions in
     let y = h .0 .entries in
     let z = h .0 .leaps in
     let c = h .1 in
     (omega arith, omega arith, omega arith, omega arith)
 
--- an entry and an instruction take at most 12 cycles, so that there is room for them in the counts
-pub entry-most : (cause : Cause) (memory : Memories) (m : Machine) → enteredOf cause memory m .cycles ≤ 12
-entry-most cause memory m = ⊎-elim (λ e. omega arith) (λ e. omega arith) (entered-cycles cause memory m)
+module _ (s : State) (memory : Memories) {e : Moved} {j : Memories} where
+  pub entry-fits : (cause : Cause) (i n : ℕ) → moved e j ≡ enteredOf cause memory (s .machine) → Ready s → i ≤ 1 → n ≤ 1
+      → Fits s (grown (e .cycles .0) i n 0)
+  entry-fits cause i n q h = few-fit h (rw (ap (λ (z : Stepped). z .cycles) q) (entry-most cause memory (s .machine)))
 
-pub entry-fits : (s : State) (cause : Cause) (memory : Memories) {e : Moved} {j : Memories}
-    → moved e j ≡ enteredOf cause memory (s .machine) → Ready s → Fits s (grown (e .cycles .0) 0 1 0)
-entry-fits s cause memory {e} q h = few s e h (ap (λ (z : Stepped). z .cycles) q) (entry-most cause memory (s .machine)) 0 1 (omega arith) (omega arith)
-
-pub step-fits : (s : State) (i : Instruction) (memory : Memories) {e : Moved} {j : Memories} → lookOf memory (s .machine) ≡ looks.Runs i
-    → moved e j ≡ stepOf i memory (s .machine) → Ready s → Fits s (grown (e .cycles .0) 1 0 0)
-step-fits s i memory {e} l q h = few s e h (ap (λ (z : Stepped). z .cycles) q) (step-cycles memory (s .machine) i l .1) 1 0 (omega arith) (omega arith)
+  pub step-fits : (k : Instruction) (i n : ℕ) → lookOf memory (s .machine) ≡ looks.Runs k → moved e j ≡ stepOf k memory (s .machine) → Ready s
+      → i ≤ 1 → n ≤ 1 → Fits s (grown (e .cycles .0) i n 0)
+  step-fits k i n l q h = few-fit h (rw (ap (λ (z : Stepped). z .cycles) q) (step-cycles memory (s .machine) k l .1))
 
 module _ (s : State) (l : Lent) where
   -- step 4, by what the machine's entry gives

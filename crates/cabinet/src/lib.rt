@@ -170,12 +170,34 @@ pub fn power_on(image: &[u8], r: u32) -> Power
     power::power_on(image, r)
 }
 
+// Either run, leaping or single: the same answer, and how many leaps there were or would have been.
+pub fn run_either(
+    leaping: bool,
+    image: &mut [u8],
+    m: Machine,
+    session: &[u8],
+    n: u32,
+    output: &mut [u8],
+) -> Leapt
+    ensures { λ r. ⌜ (answered (r .ran) (lent (now (image .exit)) (now (output .exit)))
+        ≡ answerOf (terms (now (session .entry)) n) m (lent (now (image .entry)) (now (output .entry))))
+        × (r .leaps .0 ≡ leapsOf (terms (now (session .entry)) n) m (lent (now (image .entry)) (now (output .entry)))) ⌝ }
+{
+    let e = end(leaping, image, m, session, n, output);
+    let leaps = e.state.leaps.0;
+    Leapt {
+        ran: e.report(),
+        leaps: Leaps(leaps),
+    }
+}
+
 // The single run: each waiting cycle is a boundary of its own.
 pub fn run_single(image: &mut [u8], m: Machine, session: &[u8], n: u32, output: &mut [u8]) -> Ran
     ensures { λ r. ⌜ answered r (lent (now (image .exit)) (now (output .exit)))
         ≡ answerOf (terms (now (session .entry)) n) m (lent (now (image .entry)) (now (output .entry))) ⌝ }
 {
-    end(false, image, m, session, n, output).report()
+    let leapt = run_either(false, image, m, session, n, output);
+    leapt.ran
 }
 
 // The leaping run: the same answer, and how many leaps there were.
@@ -184,12 +206,7 @@ pub fn run_leaping(image: &mut [u8], m: Machine, session: &[u8], n: u32, output:
         ≡ answerOf (terms (now (session .entry)) n) m (lent (now (image .entry)) (now (output .entry))))
         × (r .leaps .0 ≡ leapsOf (terms (now (session .entry)) n) m (lent (now (image .entry)) (now (output .entry)))) ⌝ }
 {
-    let e = end(true, image, m, session, n, output);
-    let leaps = e.state.leaps.0;
-    Leapt {
-        ran: e.report(),
-        leaps: Leaps(leaps),
-    }
+    run_either(true, image, m, session, n, output)
 }
 
 // One opcode's operation, operand place, length and cycles, or that it is undefined.

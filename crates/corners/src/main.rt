@@ -1,5 +1,5 @@
 // Instructions that meet the registers and the edges of memory: standard input has the rows, and each
-// answer says all that is not as it was before the row. docs/CORNERS.md explains the rows.
+// answer says all that is not as it was before the row. docs/CASES.md explains the rows.
 use arithmetic::Codes;
 use bits::Flag;
 use bus::Bus;

@@ -12,7 +12,8 @@ use Rattle.arithmetic.specs.Codes.{codesByte, codesOf}
 use Rattle.arithmetic.specs.Results.{movedOf, sub16Of, monadicOf, daaOf, mulOf}
 use Rattle.registers.specs.declared.Cpu.{Cpu}
 use Rattle.ports.specs.Ports.{readPort, readPorts, resetPorts}
-use Rattle.timer.specs.Timer.{withWords, tcsrOf, readTimer, writeTimer, ticks, resetTimer}
+use Rattle.timer.specs.Fields.{withCounter, withCompare}
+use Rattle.timer.specs.Timer.{tcsrOf, readTimer, writeTimer, ticks, resetTimer}
 use Rattle.serial.specs.Serial.{trcsOf, writeSerial, receivedByte, ticksSerial, resetSerial}
 use Rattle.bus.specs.declared.Bus.{Bus}
 use Rattle.bus.specs.Access.{Memories, memories, withTimer, readOf, writeOf, storeOf}
@@ -61,7 +62,7 @@ double s = paired (cpu s .a) (cpu s .b)
 -- counter and TCSR after k cycles of a counter and a compare register
 abbrev counted : ℕ → ℕ → ℕ → List ℕ
 counted counter compare k =
-    let t = passedOf k (onBus start (withTimer (start .chip .bus) (withWords counter compare 0 (start .chip .bus .timer)))) .chip .bus .timer in
+    let t = passedOf k (onBus start (withTimer (start .chip .bus) (withCounter counter (withCompare compare (start .chip .bus .timer))))) .chip .bus .timer in
     t .counter ∷ tcsrOf t ∷ []
 
 -- with RE set

@@ -1,4 +1,4 @@
-// Refusals and stops of a night, and the edges of reading numbers and joining names. docs/NIGHT.md has the numbers.
+// Refusals and stops of a night, and the edges of reading numbers and joining names. docs/FORMATS.md has the numbers.
 use machine::Power;
 use night_arguments::Number;
 use printing::Line;

@@ -2,10 +2,10 @@
 -- cycles, 0 for an opcode that is undefined. Nobody needs to believe this file: `decode` promises the table of Opcodes.antt.
 use Prim.Native.Nat.{ℕ, _+_, _%_, _^_}
 use mathlib.Core.List.{List, [], _∷_}
-use mathlib.Core.Bool.{Bool, cond, _||_}
-use lib.Dec.{eqb, ltb}
+use mathlib.Core.Bool.{cond}
+use lib.Dec.{eqb}
 use lib.ListN.{getD}
-use Rattle.opcodes.specs.Opcodes.{is}
+use Rattle.opcodes.specs.Opcodes.{is, row8, rowC}
 use Rattle.opcodes.specs.declared.Accumulator.{Accumulator}
 use Rattle.opcodes.specs.declared.Accumulator.the-variants.{A, B}
 use Rattle.opcodes.specs.declared.Internal.{Internal as InternalOperation}
@@ -23,7 +23,6 @@ use Rattle.opcodes.specs.declared.Operation.{Operation}
 use Rattle.opcodes.specs.declared.Operation.the-variants.{Internal, Dyadic, Monadic, Tst, Sta, Wide, WideStore, Psh, Pul, Pshx, Pulx}
 use Rattle.opcodes.specs.declared.Operation.the-variants.{Jmp, Jsr, Rts, Rti, Swi, Wai}
 use Rattle.opcodes.specs.declared.Place.{Place}
-use Rattle.opcodes.specs.declared.Place.the-variants.{AccumulatorA, AccumulatorB, ImmediateByte, ImmediateWord, Direct, Indexed, Extended}
 use Rattle.opcodes.specs.declared.Decoded.{Decoded}
 use Rattle.opcodes.specs.declared.Decoded.the-variants.{Undefined}
 
@@ -50,10 +49,19 @@ operations3 =
 abbrev pub monadics : List MonadicOperation
 monadics = Neg ∷ Clr ∷ Clr ∷ Com ∷ Lsr ∷ Clr ∷ Ror ∷ Asr ∷ Asl ∷ Rol ∷ Dec ∷ Clr ∷ Inc ∷ Clr ∷ Clr ∷ Clr ∷ []
 
-abbrev pub operations4 : List Operation
-operations4 =
-    Monadic Neg ∷ Monadic Clr ∷ Monadic Clr ∷ Monadic Com ∷ Monadic Lsr ∷ Monadic Clr ∷ Monadic Ror ∷ Monadic Asr
-    ∷ Monadic Asl ∷ Monadic Rol ∷ Monadic Dec ∷ Monadic Clr ∷ Monadic Inc ∷ Tst ∷ Jmp ∷ Monadic Clr ∷ []
+-- opcodes 40 to 7F, but for JMP, with the place, length and cycles of their row
+abbrev pub oneByteOf : ℕ → Place → ℕ → ℕ → Decoded
+oneByteOf low place length cycles =
+    let on : MonadicOperation → Decoded = λ operation. is (Monadic operation) place length cycles in
+    getD
+    (on Neg ∷ Undefined ∷ Undefined ∷ on Com ∷ on Lsr ∷ Undefined ∷ on Ror ∷ on Asr
+    ∷ on Asl ∷ on Rol ∷ on Dec ∷ Undefined ∷ on Inc ∷ is Tst place length cycles ∷ Undefined ∷ on Clr ∷ [])
+    low
+    Undefined
+
+-- opcodes 60 to 7F
+abbrev pub modifiedOf : ℕ → Place → ℕ → Decoded
+modifiedOf low place length = cond (eqb low 0xE) (is Jmp place length 3) (oneByteOf low place length 6)
 
 -- the names of rows 8 to F; SUB stands where there is none
 abbrev pub dyadics : List DyadicOperation
@@ -84,7 +92,7 @@ operations8 a =
     ∷ WideStore (eitherOf a Sts Stx)
     ∷ []
 
--- the cycles of rows 0, 1, 3, 4 and 5, 6 and 7, 8 and C
+-- the cycles of rows 0, 1 and 3
 abbrev pub cycles0 : List ℕ
 cycles0 = 0 ∷ 2 ∷ 0 ∷ 0 ∷ 3 ∷ 3 ∷ 2 ∷ 2 ∷ 3 ∷ 3 ∷ 2 ∷ 2 ∷ 2 ∷ 2 ∷ 2 ∷ 2 ∷ []
 
@@ -94,50 +102,15 @@ cycles1 = 2 ∷ 2 ∷ 0 ∷ 0 ∷ 0 ∷ 0 ∷ 2 ∷ 2 ∷ 0 ∷ 2 ∷ 0 ∷ 2 �
 abbrev pub cycles3 : List ℕ
 cycles3 = 3 ∷ 3 ∷ 4 ∷ 4 ∷ 3 ∷ 3 ∷ 3 ∷ 3 ∷ 5 ∷ 5 ∷ 3 ∷ 10 ∷ 4 ∷ 10 ∷ 9 ∷ 12 ∷ []
 
-abbrev pub cycles4 : List ℕ
-cycles4 = 2 ∷ 0 ∷ 0 ∷ 2 ∷ 2 ∷ 0 ∷ 2 ∷ 2 ∷ 2 ∷ 2 ∷ 2 ∷ 0 ∷ 2 ∷ 2 ∷ 0 ∷ 2 ∷ []
-
-abbrev pub cycles6 : List ℕ
-cycles6 = 6 ∷ 0 ∷ 0 ∷ 6 ∷ 6 ∷ 0 ∷ 6 ∷ 6 ∷ 6 ∷ 6 ∷ 6 ∷ 0 ∷ 6 ∷ 6 ∷ 3 ∷ 6 ∷ []
-
-abbrev pub cycles8 : List ℕ
-cycles8 = 2 ∷ 2 ∷ 2 ∷ 4 ∷ 2 ∷ 2 ∷ 2 ∷ 0 ∷ 2 ∷ 2 ∷ 2 ∷ 2 ∷ 4 ∷ 6 ∷ 3 ∷ 0 ∷ []
-
-abbrev pub cyclesC : List ℕ
-cyclesC = 2 ∷ 2 ∷ 2 ∷ 4 ∷ 2 ∷ 2 ∷ 2 ∷ 0 ∷ 2 ∷ 2 ∷ 2 ∷ 2 ∷ 3 ∷ 0 ∷ 3 ∷ 0 ∷ []
-
--- what the operations of rows 9 to B and D to F add to the cycles of their row
-abbrev pub addedA : List ℕ
-addedA = 0 ∷ 0 ∷ 0 ∷ 2 ∷ 0 ∷ 0 ∷ 0 ∷ 0 ∷ 0 ∷ 0 ∷ 0 ∷ 0 ∷ 2 ∷ 2 ∷ 1 ∷ 1 ∷ []
-
-abbrev pub addedB : List ℕ
-addedB = 0 ∷ 0 ∷ 0 ∷ 2 ∷ 0 ∷ 0 ∷ 0 ∷ 0 ∷ 0 ∷ 0 ∷ 0 ∷ 0 ∷ 1 ∷ 1 ∷ 1 ∷ 1 ∷ []
-
+-- what the operations of rows 8 to F add to the cycles of their row
 abbrev pub added : Accumulator → List ℕ
-added a = eitherOf a addedA addedB
+added a = 0 ∷ 0 ∷ 0 ∷ 2 ∷ 0 ∷ 0 ∷ 0 ∷ 0 ∷ 0 ∷ 0 ∷ 0 ∷ 0 ∷ eitherOf a 2 1 ∷ eitherOf a 2 1 ∷ 1 ∷ 1 ∷ []
 
--- opcodes 40 to 7F, by their row
-abbrev pub columnOf : ℕ → ℕ → Decoded
-columnOf row low =
-    let operation = getD operations4 low Jsr in
-    let cycles = getD (cond (ltb row 0x6) cycles4 cycles6) low 0 in
-    cond (eqb row 0x4) (definedOf operation AccumulatorA 1 cycles)
-    (cond (eqb row 0x5) (definedOf operation AccumulatorB 1 cycles)
-    (cond (eqb row 0x6) (definedOf operation Indexed 2 cycles) (definedOf operation Extended 3 cycles)))
+-- opcodes 80 to FF as they are in memory, with the place, length and cycles of their row
+abbrev pub twoBytesOf : ℕ → Accumulator → Place → ℕ → ℕ → Decoded
+twoBytesOf low a place length cycles = is (getD (operations8 a) low Jsr) place length ((cycles + getD (added a) low 0) % 2 ^ 8)
 
-abbrev pub ofWord : ℕ → Bool
-ofWord low = (eqb low 0x3 || eqb low 0xC) || eqb low 0xE
-
--- opcodes 80 to 8F, but for BSR, and C0 to CF
-abbrev pub immediateOf : Accumulator → ℕ → ℕ → Decoded
-immediateOf a low cycles =
-    let operation = getD (operations8 a) low Jsr in
-    cond (ofWord low) (definedOf operation ImmediateWord 3 cycles) (definedOf operation ImmediateByte 2 cycles)
-
--- opcodes 90 to BF and D0 to FF, by their row
-abbrev pub memoryOf : ℕ → ℕ → Accumulator → Decoded
-memoryOf row low a =
-    let operation = getD (operations8 a) low Jsr in
-    let cycles : ℕ → ℕ = λ n. (n + getD (added a) low 0) % 2 ^ 8 in
-    cond (eqb (row % 4) 1) (definedOf operation Direct 2 (cycles 3))
-    (cond (eqb (row % 4) 2) (definedOf operation Indexed 2 (cycles 4)) (definedOf operation Extended 3 (cycles 4)))
+-- opcodes 80 to 8F and C0 to CF
+abbrev pub immediateOf : Accumulator → ℕ → Decoded
+immediateOf A low = getD row8 low Undefined
+immediateOf B low = getD rowC low Undefined

@@ -42,9 +42,9 @@ fn time_left(time: u32, cycles: Cycles) -> u32
 // The record at a place, its time less the cycles, is stored from a place of the buffer on.
 fn copy_record(session: &[u8], at: usize, cycles: Cycles, to: usize, buffer: &mut [u8])
     requires { ⌜
-      (at + 8 ≤ nextAt (now session) at)
-      × (nextAt (now session) at ≤ length (now session))
-      × (to + (nextAt (now session) at - at) ≤ length (now buffer)) ⌝ }
+        (at + 8 ≤ nextAt (now session) at)
+        × (nextAt (now session) at ≤ length (now session))
+        × (to + (nextAt (now session) at - at) ≤ length (now buffer)) ⌝ }
     ensures { λ _. ⌜ now (buffer .exit) ≡ sets (now (buffer .entry)) to (shiftedAt (now (session .entry)) (cycles .0) at) ⌝ }
 {
     let next = session::next_at(session, at);
@@ -58,8 +58,8 @@ fn copy_record(session: &[u8], at: usize, cycles: Cycles, to: usize, buffer: &mu
 fn copy_records(session: &[u8], from: usize, cycles: Cycles, buffer: &mut [u8])
     requires { ⌜ SoundFrom (now session) from × (length (now session) - from ≤ length (now buffer)) ⌝ }
     ensures { λ _. ⌜
-      now (buffer .exit)
-      ≡ restFrom (now (session .entry)) (cycles .0) from [] ++ drop (length (now (session .entry)) - from) (now (buffer .entry)) ⌝ }
+        now (buffer .exit)
+        ≡ restFrom (now (session .entry)) (cycles .0) from [] ++ drop (length (now (session .entry)) - from) (now (buffer .entry)) ⌝ }
 {
     let mut at = from;
     while at < session.len() {
@@ -89,8 +89,8 @@ fn skip(session: &[u8], used: Records) -> Skipped
 fn write_rest(session: &[u8], used: Records, cycles: Cycles, buffer: &mut [u8]) -> Rested
     requires { ⌜ checkOf (now session) ≡ Sound ⌝ }
     ensures { λ r. ⌜
-      (toldRest r ≡ restAnswer (now (session .entry)) (used .0) (cycles .0) (now (buffer .entry)))
-      × (now (buffer .exit) ≡ restBuffer (now (session .entry)) (used .0) (cycles .0) (now (buffer .entry))) ⌝ }
+        (toldRest r ≡ restAnswer (now (session .entry)) (used .0) (cycles .0) (now (buffer .entry)))
+        × (now (buffer .exit) ≡ restBuffer (now (session .entry)) (used .0) (cycles .0) (now (buffer .entry))) ⌝ }
 {
     let skipped = skip(session, used);
     match skipped {
@@ -109,8 +109,8 @@ fn write_rest(session: &[u8], used: Records, cycles: Cycles, buffer: &mut [u8]) 
 // The rest of a session, of which so many records were used in so many cycles, is written to the buffer's front.
 pub fn rest(session: &[u8], used: Records, cycles: Cycles, buffer: &mut [u8]) -> Rested
     ensures { λ r. ⌜
-      (toldRest r ≡ restAnswer (now (session .entry)) (used .0) (cycles .0) (now (buffer .entry)))
-      × (now (buffer .exit) ≡ restBuffer (now (session .entry)) (used .0) (cycles .0) (now (buffer .entry))) ⌝ }
+        (toldRest r ≡ restAnswer (now (session .entry)) (used .0) (cycles .0) (now (buffer .entry)))
+        × (now (buffer .exit) ≡ restBuffer (now (session .entry)) (used .0) (cycles .0) (now (buffer .entry))) ⌝ }
 {
     let checked = session::check(session);
     match checked {

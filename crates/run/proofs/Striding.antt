@@ -11,19 +11,21 @@ use Rattle.turns.specs.Turn.{more}
 use Rattle.timer.specs.Timer.{ticks}
 use Rattle.serial.specs.Serial.{ticksSerial, serialRequest}
 use Rattle.registers.specs.declared.Cpu.{Cpu}
+use Rattle.registers.specs.Cpu.{idles}
 use Rattle.bus.specs.declared.Bus.{Bus}
+use Rattle.bus.specs.Access.{Memories, memories}
 use Rattle.bus.specs.Units.{passed}
 use Rattle.bus.proofs.Ranges as bus
 use Rattle.cpu.specs.Act.{out}
 use Rattle.machine.specs.declared.Machine.{Machine}
+use Rattle.machine.specs.declared.Look.{Look}
 use Rattle.machine.specs.Machine.{onChip, passedOf}
 use Rattle.machine.specs.Interrupts.{pendingOf}
-use Rattle.machine.specs.Steps.{Stepped, stepped, stepOf}
-use Rattle.plain.specs.declared.Hop.{Hop}
-use Rattle.plain.specs.Plainly.{Hops}
+use Rattle.machine.specs.Steps.{Stepped}
+use Rattle.plain.specs.Plainly.{Steps, Hopped}
 use Rattle.boundary.specs.declared.State.{State}
-use Rattle.boundary.specs.World.{lent, Terms, worldOf, grown, grownTo}
-use Rattle.boundary.specs.Boundary.{sendOf, executedOf, boundaryOf}
+use Rattle.boundary.specs.World.{lent, memoriesIn, Terms, worldOf, grown, grownTo}
+use Rattle.boundary.specs.Boundary.{sendOf, steppedWorld, executedOf, boundaryOf}
 use Rattle.boundary.specs.Counts.{Fine, Fits}
 use Rattle.boundary.proofs.Feeding.{records-done}
 use Rattle.boundary.proofs.Cases.{below-limit, send-rests, act-steps}
@@ -63,21 +65,21 @@ strode-more s c d j i k =
 module _ (t : Terms) (s : State) where
   -- as long as nothing stirs, a boundary is the next instruction
   pub stride-turn : (c d : Cpu) (j i k : ℕ) (image after o : List ℕ) → s .cycles .0 + j < t .limit → stirs t s j ≡ false
-      → c .waiting ≡ false → c .codes .i ≡ s .machine .chip .cpu .codes .i → 0 < k
-      → stepOf image (strodeOf s c j i .machine) ≡ stepped (strodeOf s c j i .machine) k (out d (passed j (s .machine .chip .bus)) after)
+      → idles c ≡ false → c .codes .i ≡ s .machine .chip .cpu .codes .i
+      → Steps (memories image) (strodeOf s c j i .machine) k (out d (passed j (s .machine .chip .bus)) (memories after))
       → boundaryOf t (worldOf (strodeOf s c j i) (lent image o)) ≡ more (worldOf (strodeOf s d (j + k) (i + 1)) (lent after o))
   unfolding passed
-  stride-turn c d j i k image after o b still awake masked takes e =
+  stride-turn c d j i k image after o b still awake masked e =
       let r = strodeOf s c j i in
       let l = lent image o in
       let q = neither _ _ still in
       let p = neither _ _ (q .0) in
       below-limit r l t b
-      ∙ ap (λ (x : State). sendOf (worldOf x l)) (records-done (t .session) image r (p .0))
+      ∙ ap (λ (x : State). sendOf (worldOf x l)) (records-done (t .session) (memoriesIn l) r (p .0))
       ∙ send-rests r l (p .1)
       ∙ act-steps r l (not-due _ (alike-due j (s .machine) c masked ∙ q .1)) awake
-      ∙ ap (λ (z : Stepped). executedOf z (worldOf r l)) e
-      ∙ passes _ _ (ne-eqb k 0 (λ (z : k ≡ 0). omega arith))
+      ∙ ap (λ (z : Look). executedOf z (worldOf r l)) (e .stands)
+      ∙ ap (λ (z : Stepped). more (steppedWorld z (worldOf r l))) (e .steps)
       ∙ ap (λ (x : State). more (worldOf x (lent after o))) (strode-more s c d j i k)
 
 -- two bools that are not unlike
@@ -88,29 +90,29 @@ alike false true e = absurd (true≢false e)
 alike false false e = refl
 
 -- what ends the stride
-abbrev pub ends : ℕ → ℕ → Cpu → Bool → Bool
-ends room cycles c masked = (leb room cycles || c .waiting) || not (Bool·beq (c .codes .i) masked)
+abbrev pub ends : ℕ → ℕ → Bool → Bool → Bool → Bool
+ends room cycles idle i masked = (leb room cycles || idle) || not (Bool·beq i masked)
 
 pub below-room : (room cycles : ℕ) (a b : Bool) → ((leb room cycles || a) || b) ≡ false → cycles < room
 below-room room cycles a b on = leb-false room cycles (neither (leb room cycles) a (neither (leb room cycles || a) b on .0) .0)
 
 module _ (t : Terms) (s : State) where
   -- one turn of the stride
-  pub strides : (room : ℕ) (c : Cpu) (j i : ℕ) (h : Hop) (image₀ image after : List ℕ)
-      → First (t .limit - s .cycles .0) room (stirs t s) → ends room j c (s .machine .chip .cpu .codes .i) ≡ false
-      → Hops (s .machine .chip .bus .r) c image h after → (h .cycles ≡ 0 → ⊥)
-      → Goes t s image₀ (strodeOf s c j i) image → Goes t s image₀ (strodeOf s (h .cpu) (j + h .cycles) (i + 1)) after
+  pub strides : (room : ℕ) (c e : Cpu) (j i k : ℕ) (image₀ image after : List ℕ) {idle : Bool}
+      → First (t .limit - s .cycles .0) room (stirs t s)
+      → idle ≡ idles c → ends room j idle (c .codes .i) (s .machine .chip .cpu .codes .i) ≡ false
+      → Hopped (s .machine .chip .bus .r) c (memories image) k e (memories after)
+      → Goes t s image₀ (strodeOf s c j i) image → Goes t s image₀ (strodeOf s e (j + k) (i + 1)) after
   unfolding passed
-  strides room c j i h image₀ image after first on hops takes goes o =
-      let q = neither (leb room j || c .waiting) _ on in
+  strides room c e j i k image₀ image after {idle} first told on hopped goes o =
+      let q = neither (leb room j || idle) _ on in
       let p = neither (leb room j) _ (q .0) in
       let l = below-room room j _ _ on in
       let w = first .within in
-      let z : 0 < h .cycles = omega arith in
       goes o
       ∙ run-more t _
-      (stride-turn t s c (h .cpu) j i (h .cycles) image after o (omega arith) (first .before j l) (p .1) (alike _ _ (q .1)) z
-      (hops .0 z (passed j (s .machine .chip .bus)) (s .machine .irq1) (s .machine .nmi) refl))
+      (stride-turn t s c e j i k image after o (omega arith) (first .before j l) (sym told ∙ p .1) (alike _ _ (q .1))
+      (hopped .hops (passed j (s .machine .chip .bus)) (s .machine .irq1) (s .machine .nmi) refl))
 
   pub stride-ends : (c : Cpu) (j i : ℕ) (image₀ image after : List ℕ) {r : State} → Fine s → i ≤ j
       → Goes t s image₀ (strodeOf s c j i) image → after ≡ image → r ≡ strodeOf s c j i → Paced t s image₀ r after
@@ -122,8 +124,12 @@ module _ (t : Terms) (s : State) where
       (subst (λ (v : List ℕ). Paced t s image₀ (strodeOf s c j i) v) (sym e)
       (record { instructions = omega arith; entries = omega arith; leaps = omega arith; used = f .used }, omega arith, goes))
 
+-- a step that was left has left the image
+pub left-image : {image after : List ℕ} → memories after ≡ memories image → after ≡ image
+left-image e = ap (λ (m : Memories). m .image) e
+
 -- the stride's cycles are within the limit but for its last instruction, so no count can pass its type
-pub stride-fits : {s : State} {n room j i : ℕ} → Fine s → s .cycles .0 < n → n ≤ 1000000000 → room ≤ n - s .cycles .0 → i ≤ j → j ≤ room + 255
+pub stride-fits : {s : State} {n room j i : ℕ} → Fine s → s .cycles .0 < n → n ≤ 1000000000 → room ≤ n - s .cycles .0 → i ≤ j → j ≤ room + 12
     → Fits s (grown j i 0 0)
 stride-fits f l h p q r =
     let x = f .instructions in

@@ -34,7 +34,6 @@ use Rattle.boundary.proofs.Cases.{below-limit, send-rests, act-waits}
 use Rattle.boundary.proofs.Runs.{run-leap}
 use Rattle.run.specs.Leaps.{isDue, endsLeap, First, stirs, Leapt}
 
-
 -- what decides whether an interrupt is accepted: a pending NMI; or, with I clear, a cause that is there now, OCF or TOF
 abbrev pub accepts : Bool → Bool → Bool → Bool → Bool → Bool
 accepts nmi i now ocf tof = nmi || (not i && (now || (ocf || tof)))
@@ -95,6 +94,10 @@ module _ (session : List ℕ) (count at : ℕ) where
 pub not-due : (p : Pending) → isDue p ≡ false → p ≡ Nothing
 not-due Nothing e = refl
 not-due (Due k) e = absurd (true≢false e)
+
+-- within a wait, as the code tells it
+pub waits : (s : State) {idle b : Bool} → idle ≡ idles (s .machine .chip .cpu) → (s .inside && idle) ≡ b → (s .inside && idles (s .machine .chip .cpu)) ≡ b
+waits s e f = ap (λ (i : Bool). s .inside && i) (sym e) ∙ f
 
 -- j waiting cycles more
 abbrev pub still : State → ℕ → State

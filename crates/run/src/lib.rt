@@ -11,6 +11,7 @@ use counts::Instructions;
 use counts::Leaps;
 use cpu::Chip;
 use machine::Machine;
+use plain::Hop;
 use registers::Cpu;
 use serial::Serial;
 use timer::Timer;
@@ -177,13 +178,17 @@ fn stride(session: &[u8], n: u32, s: State, image: &mut [u8]) -> State
         if (room <= cycles) | c.idles() | (c.codes.i != masked) {
             return strode(s, c, Cycles(cycles), Instructions(instructions));
         }
-        let h = plain::step(c, start, image);
-        if h.cycles == 0 {
-            return strode(s, c, Cycles(cycles), Instructions(instructions));
+        let h = plain::step(c, 32, start, image);
+        match h {
+            Hop::Made(k, next) => {
+                c = next;
+                cycles = cycles + k.0;
+                instructions = instructions + 1;
+            }
+            Hop::Left => {
+                return strode(s, c, Cycles(cycles), Instructions(instructions));
+            }
         }
-        c = h.cpu;
-        cycles = cycles + h.cycles as u32;
-        instructions = instructions + 1;
     }
 }
 

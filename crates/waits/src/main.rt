@@ -1,8 +1,7 @@
-// Whole runs, single and leaping side by side, over waits that end in every way: docs/WAITS.md works the expected lines from 01.
+// Whole runs, single and leaping side by side, over waits that end in every way: docs/CASES.md works the expected lines from 01.
 // With `s` or `l` and then 3, 6 or 9 on standard input, one wait that nothing ends instead, passed singly or by leaping for a
 // thousand, a million or a thousand million cycles: docs/PERFORMANCE.md measures it.
 use cabinet::Ran;
-use cabinet::Reply;
 use machine::Power;
 ghost use Prim.Native.Nat.{_≤_};
 
@@ -34,21 +33,6 @@ fn rom(code: &[u8], handler: &[u8]) -> [u8; 65536] {
     image
 }
 
-fn reply_number(r: Reply) -> u64 {
-    match r {
-        Reply::Limit => 0,
-        Reply::WrongImage => 1,
-        Reply::WrongMachine => 2,
-        Reply::WrongLimit => 3,
-        Reply::Length(_) => 4,
-        Reply::Kind(_) => 5,
-        Reply::Value(_) => 6,
-        Reply::Time(_) => 7,
-        Reply::Undefined => 8,
-        Reply::Full => 9,
-    }
-}
-
 fn number(name: &[u8], n: u64) {
     io::write_all(1, name);
     io::print_decimal(1, n);
@@ -64,7 +48,7 @@ fn hexadecimal(name: &[u8], n: u64, digits: usize)
 fn show(r: Ran, first: u8, second: u8) {
     let reply = r.reply;
     let c = r.machine.chip.cpu;
-    number(b" stop ", reply_number(reply));
+    number(b" stop ", reply.number() as u64);
     number(b" cycles ", r.cycles.0 as u64);
     number(b" instr ", r.instructions.0 as u64);
     number(b" entries ", r.entries.0 as u64);

@@ -1,17 +1,18 @@
--- `results::write` meets its contract: seven numbers, one after the other. Assumes nothing.
+-- `board_results::write` meets its contract: three numbers after the first 16 bytes. Assumes nothing.
 use native.Mathlib.Omega.{arith}
-use mathlib.Core.Path.{_≡_}
 use borrow.Author.Needs.{needs}
-use Rattle.results.specs.Results.{resultBytes}
-use Rattle.numbers.proofs.Laws.{Laid, laid-none, laid-more}
-use Rattle.results.proofs.write.Statement.{statement}
-use Rattle.results.proofs.write.Tie as tie
+use Rattle.numbers.proofs.Laws.{laid-more}
+use Rattle.board_results.specs.Results.{resultBytes}
+use Rattle.board_results.proofs.Laws.{laid-head}
+use Rattle.board_results.proofs.write.Statement.{statement}
+use Rattle.board_results.proofs.write.Tie as tie
 
 pub write-spec : {M : Type 1} → statement M
 unfolding resultBytes
 write-spec =
     tie.close
     (tie.spec
+    (λ c κs. search needs)  -- write-head-requires
     (λ c. search needs)  -- sub-put
     (λ c. search needs)  -- part-put-start
     (λ c. search needs)  -- part-put-end
@@ -19,29 +20,16 @@ write-spec =
     (λ c. search needs)  -- sub-put-2
     (λ c. search needs)  -- part-put-start-2
     (λ c. search needs)  -- part-put-end-2
-    (λ c. search needs)  -- cast-put
     (λ c κs. search needs)  -- put-requires-2
     (λ c. search needs)  -- sub-put-3
     (λ c. search needs)  -- part-put-start-3
     (λ c. search needs)  -- part-put-end-3
-    (λ c. search needs)  -- cast-put-2
     (λ c κs. search needs)  -- put-requires-3
-    (λ c. search needs)  -- sub-put-4
-    (λ c. search needs)  -- part-put-start-4
-    (λ c. search needs)  -- part-put-end-4
-    (λ c. search needs)  -- cast-put-3
-    (λ c κs. search needs)  -- put-requires-4
-    (λ c. search needs)  -- sub-put-5
-    (λ c. search needs)  -- part-put-start-5
-    (λ c. search needs)  -- part-put-end-5
-    (λ c κs. search needs)  -- put-requires-5
-    (λ c. search needs)  -- sub-put-6
-    (λ c. search needs)  -- part-put-start-6
-    (λ c. search needs)  -- part-put-end-6
-    (λ c κs. search needs)  -- put-requires-6
-    (λ c. search needs)  -- sub-put-7
-    (λ c. search needs)  -- part-put-start-7
-    (λ c. search needs)  -- part-put-end-7
-    (λ c κs. search needs)  -- put-requires-7
     (λ c. search needs)  -- same-length
-    (λ c. let b = c .before .before .before .before .before .before .before .before .before .before .before .before .before .before .before .before .before .before .before .before .before .before .before .before .before .before .before .before .before .before .before .before .pre in (laid-more (laid-more (laid-more (laid-more (laid-more (laid-more (laid-more (laid-none (c .before .before .before .before .before .before .before .before .before .before .before .before .before .before .before .before .before .before .before .before .before .before .before .before .before .before .before .before .before .before .before .before .args .result .now)) 4 _ (omega arith) (c .before .before .before .before .before .before .before .before .before .before .before .before .before .before .before .before .before .before .before .before .before .before .before .before .before .before .before .before .before .put .ensures)) 4 _ (omega arith) (c .before .before .before .before .before .before .before .before .before .before .before .before .before .before .before .before .before .before .before .before .before .before .before .before .put2 .ensures)) 4 _ (omega arith) (c .before .before .before .before .before .before .before .before .before .before .before .before .before .before .before .before .before .before .before .put3 .ensures)) 4 _ (omega arith) (c .before .before .before .before .before .before .before .before .before .before .before .before .before .before .put4 .ensures)) 8 _ (omega arith) (c .before .before .before .before .before .before .before .before .before .before .put5 .ensures)) 8 _ (omega arith) (c .before .before .before .before .before .before .put6 .ensures)) 8 _ (omega arith) (c .before .before .put7 .ensures)) .same))  -- returns
+    (λ c.
+    let c0 = c .before .before .before .before .before .before .before .before .before .before .before .before .before .before .before .before .before in
+    let b = c0 .pre in
+    let l0 = laid-head (c0 .args .result .now) _ _ (c .before .before .before .before .before .before .before .before .before .before .before .before .before .before .write-head .ensures) in
+    let l1 = laid-more l0 8 _ (omega arith) (c .before .before .before .before .before .before .before .before .before .before .put .ensures) in
+    let l2 = laid-more l1 8 _ (omega arith) (c .before .before .before .before .before .before .put2 .ensures) in
+    laid-more l2 8 _ (omega arith) (c .before .before .put3 .ensures) .same))  -- returns

@@ -5,8 +5,8 @@ use native.Mathlib.Omega.{arith}
 use borrow.Author.Needs.{needs}
 use lib.ListN.{getD}
 use Rattle.opcodes.proofs.Places.{row-is}
-use Rattle.opcodes.specs.Opcodes.{row2}
-use Rattle.opcodes.specs.Parts.{definedOf, tests2}
+use Rattle.opcodes.specs.Opcodes.{is, row2}
+use Rattle.opcodes.specs.Parts.{tests2}
 use Rattle.opcodes.specs.declared.Branch.the-variants.{Bra}
 use Rattle.opcodes.specs.declared.Operation.the-variants.{Branch}
 use Rattle.opcodes.specs.declared.Place.the-variants.{Relative}
@@ -19,4 +19,4 @@ row-2-spec =
     (tie.spec
     (λ c κs. search needs)
     (λ c κs. search needs)
-    (λ c. row-is (λ (k : ℕ). definedOf (Branch (getD tests2 k Bra)) Relative 2 3) row2 (c .before .before .args .low) (rw (c .before .test-2 .ensures) at (c .defined .ensures)) refl (omega arith)))
+    (λ c. row-is (λ (k : ℕ). is (Branch (getD tests2 k Bra)) Relative 2 3) row2 (c .before .before .args .low) (rw (c .before .test-2 .ensures) at (c .entry .ensures)) refl (omega arith)))

@@ -38,9 +38,12 @@ copy-record-spec =
     (λ c κs. search needs)  -- copy-requires-2
     (λ c. search needs)  -- same-length
     (λ c.
-    let a = c .before .before .before .before .before .before .before .before .before .before .before .before .before .before .before .before .before .before .before .args in
-    let p = c .before .before .before .before .before .before .before .before .before .before .before .before .before .before .before .before .before .before .before .pre in
-    let left = c .before .before .before .before .before .before .before .before .before .before .before .before .before .before .time-left in
+    let first = c .before .before .before .before .before .before .before .before .before .before .before .before .before .before in
+    let a = first .before .before .before .before .before .args in
+    let p = first .before .before .before .before .before .pre in
+    let left = first .time-left in
     record-stored (a .session .now) (a .cycles .0) (a .at) (a .to) _ _ (left .result) (a .buffer .now) (p .0) (p .1) (p .2)
-    (c .before .before .before .before .before .before .before .before .before .before .before .before .before .before .before .before .next-at .ensures) (c .before .before .before .before .before .before .before .before .before .before .before .before .before .before .before .time-at .ensures) (left .ensures) (omega arith)
-    (c .before .before .before .before .before .before .before .before .before .before .before .copy .ensures .1) (c .before .before .before .before .before .before .before .put .ensures) (c .before .before .copy2 .ensures .1)))  -- returns
+    (first .before .before .next-at .ensures) (first .before .time-at .ensures) (left .ensures) (omega arith)
+    (c .before .before .before .before .before .before .before .before .before .before .before .copy .ensures .1)
+    (c .before .before .before .before .before .before .before .put .ensures)
+    (c .before .before .copy2 .ensures .1)))  -- returns

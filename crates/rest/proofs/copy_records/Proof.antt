@@ -44,8 +44,10 @@ loop-less c =
 
 loop-again : tie.Need-loop-again Inv-loop μ-loop
 loop-again c =
-    let l = c .before .before .before .before .before .before .loop in
-    copying-goes _ _ _ _ (c .before .before .before .before .before .before .before .before .before .pre .1) (l .at) (l .buffer) (c .before .before .before .before .before .loop-test .taken) (l .inv) (c .before .before .before .copy-record .ensures) (c .next-at .ensures)
+    let head = c .before .before .before .before .before .before in
+    let l = head .loop in
+    copying-goes _ _ _ _ (head .before .before .before .pre .1) (l .at) (l .buffer) (c .before .before .before .before .before .loop-test .taken)
+    (l .inv) (c .before .before .before .copy-record .ensures) (c .next-at .ensures)
 
 same-length : tie.Need-same-length Inv-loop μ-loop
 same-length c = c .before .loop .inv .long

@@ -24,4 +24,7 @@ write-rest-spec =
     (λ c κs. (skipped-sound _ _ _ (c .before .before .before .before .before .before .before .before .pre) (there (c .before .before .before)), c .before .if1 .left))  -- copy-records-requires
     (λ c. given-fewer _ _ _ _ (c .before .before .before .before .before .pre) (rw (c .enum-told .given .1) at (c .before .before .skip .ensures)))  -- returns-2
     (λ c. search needs)  -- same-length
-    (λ c. given-written _ _ _ _ (c .before .before .before .before .before .before .before .before .before .before .before .pre) _ (there (c .before .before .before .before .before .before)) (c .before .before .before .before .if1 .left) (c .before .before .copy-records .ensures)))  -- returns-3
+    (λ c.
+    let at = c .before .before .before .before .before .before in
+    given-written _ _ _ _ (at .before .before .before .before .before .pre) _ (there at) (c .before .before .before .before .if1 .left)
+    (c .before .before .copy-records .ensures)))  -- returns-3

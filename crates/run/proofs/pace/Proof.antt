@@ -8,9 +8,10 @@ pub pace-spec : {M : Type 1} → statement M
 pace-spec =
     tie.close
     (tie.spec
-    (λ c κs. c .before .before .before .before .pre)  -- leap-requires
+    (λ c κs. search needs)  -- idles-requires
+    (λ c κs. c .before .before .before .before .before .pre)  -- leap-requires
     (λ c. let l = c .leap .ensures in (l .0, l .1, λ o. l .3 _))  -- returns
-    (λ c. (c .before .before .before .before .pre .0, omega arith, λ o. refl))  -- returns-2
-    (λ c κs. c .before .before .before .before .pre)  -- stride-requires
+    (λ c. (c .before .before .before .before .before .pre .0, omega arith, λ o. refl))  -- returns-2
+    (λ c κs. c .before .before .before .before .before .pre)  -- stride-requires
     (λ c. search needs)  -- same-length
     (λ c. c .before .before .stride .ensures))  -- returns-3

@@ -1,3 +1,4 @@
+use native.Mathlib.Omega.{arith}
 use borrow.Author.Needs.{needs}
 use mathlib.Core.Path.{sym, _∙_}
 use Rattle.boundary.specs.World.{lent}
@@ -15,7 +16,8 @@ step-spec =
     (λ c κs. search needs)  -- step-requires
     (λ c κs.
     let runs = sym (c .before .before .before .before .before .before .before .before .look .ensures) ∙ c .before .before .before .before .before .before .look2 .given .1 in
-    step-fits _ _ _ runs (c .before .before .before .step .ensures) (c .before .before .before .before .before .before .before .before .before .before .before .pre))  -- moved-requires
+    let ready = c .before .before .before .before .before .before .before .before .before .before .before .pre in
+    step-fits _ _ _ _ _ runs (c .before .before .before .step .ensures) ready (omega arith) (omega arith))  -- moved-requires
     (λ c. search needs)  -- same-length
     (λ c.
     let a = c .before .before .before .before .before .args in

@@ -1,0 +1,13 @@
+-- `board_results::unfit` meets its contract. Assumes nothing.
+use mathlib.Core.Path.{sym}
+use borrow.Author.Tests.{eq-eqb, ne-eqb}
+use Rattle.laws.proofs.Conds.{picks, passes}
+use Rattle.board_results.proofs.unfit.Statement.{statement}
+use Rattle.board_results.proofs.unfit.Tie as tie
+
+pub unfit-spec : {M : Type 1} → statement M
+unfit-spec =
+    tie.close
+    (tie.spec
+    (λ c. sym (picks _ _ (eq-eqb _ _ (c .if1 .taken))))  -- returns
+    (λ c. sym (passes _ _ (ne-eqb _ _ (c .if1 .left)))))  -- returns-2

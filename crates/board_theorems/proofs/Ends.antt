@@ -1,0 +1,48 @@
+-- Each way that a C run can end, as cases: its buffer too short, bytes that do not load, a machine outside its ranges, a run. Assumes nothing.
+use Prim.Native.Nat.{ℕ, _≤_, _<_}
+use native.Mathlib.Omega.{arith}
+use mathlib.Core.Bool.{Bool}
+use mathlib.Core.List.{List}
+use mathlib.Core.Option.{none}
+use mathlib.Core.Path.{_≡_, refl}
+use lib.Dec.{eqb, ltb}
+use lib.ListN.{length}
+use borrow.Author.Tests.{ltb-true, ltb-false}
+use Rattle.laws.proofs.Conds.{cases}
+use Rattle.replies.specs.Replies.{told}
+use Rattle.machine.specs.declared.Machine.{Machine}
+use Rattle.boundary.specs.World.{Terms}
+use Rattle.saved.specs.Layout.{machineIn}
+use Rattle.saved.specs.Answers.{loadOf, gives, replies}
+use Rattle.saved.proofs.Answers.{load-cases}
+use Rattle.board_results.specs.Results.{noCounts, recordSize, unfitReply}
+use Rattle.board.specs.Board.{Buffers, Called, called, reported, ranCall, onLoad, runCall}
+
+-- a machine outside its ranges gets 1 or 2
+pub unfit-small : (image : List ℕ) → (1 ≤ unfitReply image) × (unfitReply image ≤ 2)
+unfit-small image =
+    cases (λ (k : ℕ). (1 ≤ k) × (k ≤ 2)) (eqb (length image) 65536) (λ _. (omega arith, omega arith)) (λ _. (omega arith, omega arith))
+
+module _ (leaping : Bool) (t : Terms) (b : Buffers) where
+  abbrev Fits : Type 0
+  Fits = recordSize leaping ≤ length (b .result)
+
+  pub call-cases : (P : Called → Type 0)
+      → (length (b .result) < recordSize leaping → P (called 29 b))
+      → (Fits → (k : ℕ) → 26 ≤ k → k ≤ 28 → loadOf (b .machine) ≡ replies k → P (called k b))
+      → (Fits → loadOf (b .machine) ≡ replies 2 → P (reported leaping (told (unfitReply (b .lent .image)) none) noCounts 0 b))
+      → (Fits → (m : Machine) → loadOf (b .machine) ≡ gives m → P (ranCall leaping t b m))
+      → P (runCall leaping t b)
+  unfolding runCall
+  call-cases P short bad unfit ran =
+      cases P (ltb (length (b .result)) (recordSize leaping)) (λ e. short (ltb-true _ _ e)) (λ e. loaded (ltb-false _ _ e))
+    where
+      loaded : Fits → P (onLoad leaping t b (loadOf (b .machine)))
+      loaded h =
+          load-cases (λ g. loadOf (b .machine) ≡ g → P (onLoad leaping t b g)) (b .machine)
+          (λ _ e. bad h 26 (omega arith) (omega arith) e)
+          (λ _ _ e. bad h 27 (omega arith) (omega arith) e)
+          (λ _ _ _ e. bad h 28 (omega arith) (omega arith) e)
+          (λ _ _ _ _ e. unfit h e)
+          (λ _ _ _ _ e. ran h (machineIn (b .machine)) e)
+          refl

@@ -1,0 +1,4 @@
+pub mod Ends
+pub mod Left
+pub mod Rest
+pub mod Settled
