@@ -6,12 +6,10 @@ use Rattle.bits.specs.Words.{high, low, paired, up, down}
 use Rattle.tables.specs.Tables.{vectorOf}
 use Rattle.tables.specs.declared.Vector.the-variants.{Swi}
 use Rattle.opcodes.specs.declared.Accumulator.{Accumulator}
-use Rattle.opcodes.specs.declared.Accumulator.the-variants.{A, B}
 use Rattle.opcodes.specs.declared.Dyadic.{Dyadic}
 use Rattle.opcodes.specs.declared.Monadic.{Monadic}
 use Rattle.opcodes.specs.declared.Wide.{Wide}
 use Rattle.opcodes.specs.declared.WideStore.{WideStore}
-use Rattle.opcodes.specs.declared.Branch.{Branch}
 use Rattle.opcodes.specs.declared.Operation.{Operation}
 use Rattle.opcodes.specs.declared.Operation.the-variants as operations
 use Rattle.opcodes.specs.declared.Place.{Place}
@@ -20,10 +18,11 @@ use Rattle.opcodes.specs.declared.Place.the-variants.{Direct, Indexed, Extended
 use Rattle.opcodes.specs.declared.Instruction.{Instruction}
 use Rattle.arithmetic.specs.Codes.{codesByte, codesOf}
 use Rattle.arithmetic.specs.Results.{dyadicOf, monadicOf, testedOf, movedOf, moved16Of}
-use Rattle.arithmetic.specs.Branches.{takenOf}
 use Rattle.registers.specs.declared.Cpu.{Cpu}
-use Rattle.cpu.specs.declared.Target.{Target}
-use Rattle.cpu.specs.declared.Target.the-variants.{In, Memory}
+use Rattle.operations.specs.declared.Target.{Target}
+use Rattle.operations.specs.declared.Target.the-variants.{In, Memory}
+use Rattle.operations.specs.Shapes.{targetOf}
+use Rattle.operations.specs.Operations.{branch}
 use Rattle.cpu.specs.Act.{Act, Act.done, read, write, _>>=_, _>>_}
 use Rattle.registers.specs.Cpu.{withX, withSp, withPc, withCodes, withWaiting, accumulator, withAccumulator, resultIn, withI}
 use Rattle.registers.specs.Cpu.{internalOf, wideOf, storedOf, offset}
@@ -148,9 +147,6 @@ pulx c = do
   p ← pull2 c
   done (withX (p .cpu) (p .value))
 
-abbrev pub branch : Branch → ℕ → Cpu → Cpu
-branch test at c = cond (takenOf test (c .codes)) (withPc c at) c
-
 -- JSR, and BSR at its relative place
 unfoldable pub jsr : ℕ → Cpu → Act Cpu
 jsr at c = do
@@ -204,18 +200,6 @@ unfoldable pub enter : ℕ → Cpu → Act Cpu
 enter vector c = do
   e ← cond (c .waiting) (done c) (stackAll c)
   vectored vector e
-
--- the accumulator or memory that an operation on one byte is for
-abbrev pub targetOf : Place → Target
-targetOf Inherent = Memory
-targetOf AccumulatorA = In A
-targetOf AccumulatorB = In B
-targetOf ImmediateByte = Memory
-targetOf ImmediateWord = Memory
-targetOf Direct = Memory
-targetOf Indexed = Memory
-targetOf Extended = Memory
-targetOf Relative = Memory
 
 -- what an operation does with the operand at an address
 unfoldable pub operate : Operation → Place → ℕ → Cpu → Act Cpu

@@ -2,38 +2,34 @@
 use bits::minus;
 use bits::plus;
 use bus::Bus;
-use opcodes::Accumulator;
-use opcodes::Branch;
-use opcodes::Dyadic;
 use opcodes::Instruction;
-use opcodes::Internal;
 use opcodes::Monadic;
 use opcodes::Operation;
 use opcodes::Place;
-use opcodes::Wide;
 use opcodes::WideStore;
+use operations::Loading;
+use operations::LoadingWord;
+use operations::Pushing;
+use operations::Quiet;
+use operations::Shape;
+use operations::Storing;
 use registers::Cpu;
 use tables::Vector;
 ghost use mathlib.Core.Path.{_≡_};
 ghost use Rattle.tables.specs.Tables.{vectorOf};
 ghost use Rattle.bus.specs.Access.{memories, readOf};
 ghost use Rattle.cpu.specs.Act.{run, out};
-ghost use Rattle.cpu.specs.Instructions.{read2, write2, operand, dyadic, monadic, tst, sta, wide, wideStore, push, push2, pull, pull2, pul, pulx};
-ghost use Rattle.cpu.specs.Instructions.{branch, jsr, rts, stackAll, rti, vectored, swi, wai, enter, targetOf, operate, execute};
+ghost use Rattle.cpu.specs.Instructions.{read2, write2, operand, push, push2, pull, pull2, stackAll, rti, vectored, swi, wai, enter};
+ghost use Rattle.cpu.specs.Instructions.{operate, execute};
+ghost use Rattle.cpu.specs.Shapes.{loads, loadsWord, stores, storesWord, modifies, pushesWord};
 ghost use Rattle.cpu.specs.Chip.{runOn, ran, located, popped, poppedWord, withCpu, chipOf};
 ghost use Rattle.bits.specs.Words.{up};
-ghost use Rattle.arithmetic.specs.Results.{monadicOf, testedOf};
-ghost use Rattle.registers.specs.Cpu.{withPc, withCodes, accumulator, resultIn, internalOf};
+ghost use Rattle.operations.specs.Operations.{quietOf};
+ghost use Rattle.registers.specs.Cpu.{withPc};
 
 pub struct Chip {
     pub cpu: Cpu,
     pub bus: Bus,
-}
-
-// What an operation on one byte is for.
-pub enum Target {
-    In(Accumulator),
-    Memory,
 }
 
 pub struct WordRead {
@@ -54,22 +50,6 @@ pub struct Popped {
 pub struct PoppedWord {
     pub value: u16,
     pub chip: Chip,
-}
-
-pub fn target_of(place: Place) -> Target
-    ensures { λ r. ⌜ r ≡ targetOf place ⌝ }
-{
-    match place {
-        Place::Inherent => Target::Memory,
-        Place::AccumulatorA => Target::In(Accumulator::A),
-        Place::AccumulatorB => Target::In(Accumulator::B),
-        Place::ImmediateByte => Target::Memory,
-        Place::ImmediateWord => Target::Memory,
-        Place::Direct => Target::Memory,
-        Place::Indexed => Target::Memory,
-        Place::Extended => Target::Memory,
-        Place::Relative => Target::Memory,
-    }
 }
 
 // Two bytes, the high one first.
@@ -133,100 +113,6 @@ impl Chip {
             }
         }
     }
-
-    // SUB CMP SBC AND BIT LDA EOR ADC ORA ADD.
-    fn dyadic(self, op: Dyadic, acc: Accumulator, at: u16, image: &[u8]) -> Chip
-        ensures { λ r. ⌜ runOn (dyadic op acc at) self (memories (now (image .entry))) ≡ ran r (memories (now (image .entry))) ⌝ }
-    {
-        let c = self.cpu;
-        let f = self.bus.read(image, at);
-        let bus = f.next;
-        let r = arithmetic::dyadic(op, c.of(acc), f.value, c.codes);
-        let cpu = c.result(acc, r);
-        Chip { cpu: cpu, bus: bus }
-    }
-
-    fn monadic_in(self, op: Monadic, acc: Accumulator) -> Chip
-        ensures { λ r. ⌜ r ≡ withCpu self (resultIn acc (self .cpu) (monadicOf op (accumulator acc (self .cpu)) (self .cpu .codes))) ⌝ }
-    {
-        let c = self.cpu;
-        let bus = self.bus;
-        let r = arithmetic::monadic(op, c.of(acc), c.codes);
-        let cpu = c.result(acc, r);
-        Chip { cpu: cpu, bus: bus }
-    }
-
-    // Read, modify, write.
-    fn monadic_at(self, op: Monadic, at: u16, image: &mut [u8]) -> Chip
-        ensures { λ r. ⌜ runOn (monadic op Target.Memory at) self (memories (now (image .entry))) ≡ ran r (memories (now (image .exit))) ⌝ }
-    {
-        let c = self.cpu;
-        let f = self.bus.read(image, at);
-        let r = arithmetic::monadic(op, f.value, c.codes);
-        let bus = f.next.write(image, at, r.value);
-        let cpu = c.with_codes(r.codes);
-        Chip { cpu: cpu, bus: bus }
-    }
-
-    // NEG COM LSR ROR ASR ASL ROL DEC INC CLR.
-    fn monadic(self, op: Monadic, target: Target, at: u16, image: &mut [u8]) -> Chip
-        ensures { λ r. ⌜ runOn (monadic op target at) self (memories (now (image .entry))) ≡ ran r (memories (now (image .exit))) ⌝ }
-    {
-        match target {
-            Target::In(acc) => self.monadic_in(op, acc),
-            Target::Memory => self.monadic_at(op, at, image),
-        }
-    }
-
-    fn tested(self, bus: Bus, v: u8) -> Chip
-        ensures { λ r. ⌜ r ≡ chipOf (withCodes (self .cpu) (testedOf v (self .cpu .codes))) bus ⌝ }
-    {
-        let cpu = self.cpu.with_codes(arithmetic::tested(v, self.cpu.codes));
-        Chip { cpu: cpu, bus: bus }
-    }
-
-    fn tst(self, target: Target, at: u16, image: &[u8]) -> Chip
-        ensures { λ r. ⌜ runOn (tst target at) self (memories (now (image .entry))) ≡ ran r (memories (now (image .entry))) ⌝ }
-    {
-        match target {
-            Target::In(acc) => self.tested(self.bus, self.cpu.of(acc)),
-            Target::Memory => {
-                let f = self.bus.read(image, at);
-                self.tested(f.next, f.value)
-            }
-        }
-    }
-
-    fn sta(self, acc: Accumulator, at: u16, image: &mut [u8]) -> Chip
-        ensures { λ r. ⌜ runOn (sta acc at) self (memories (now (image .entry))) ≡ ran r (memories (now (image .exit))) ⌝ }
-    {
-        let c = self.cpu;
-        let v = c.of(acc);
-        let bus = self.bus.write(image, at, v);
-        let cpu = c.with_codes(arithmetic::moved(v, c.codes));
-        Chip { cpu: cpu, bus: bus }
-    }
-
-    // SUBD ADDD CPX LDD LDS LDX.
-    fn wide(self, op: Wide, at: u16, image: &[u8]) -> Chip
-        ensures { λ r. ⌜ runOn (wide op at) self (memories (now (image .entry))) ≡ ran r (memories (now (image .entry))) ⌝ }
-    {
-        let w = read_word(self.bus, image, at);
-        let bus = w.next;
-        let cpu = self.cpu.wide(op, w.value);
-        Chip { cpu: cpu, bus: bus }
-    }
-
-    // STD STS STX.
-    fn wide_store(self, op: WideStore, at: u16, image: &mut [u8]) -> Chip
-        ensures { λ r. ⌜ runOn (wideStore op at) self (memories (now (image .entry))) ≡ ran r (memories (now (image .exit))) ⌝ }
-    {
-        let c = self.cpu;
-        let w = c.stored(op);
-        let bus = write_word(self.bus, image, at, w);
-        let cpu = c.with_codes(arithmetic::moved16(w, c.codes));
-        Chip { cpu: cpu, bus: bus }
-    }
 }
 
 // The stack.
@@ -272,49 +158,6 @@ impl Chip {
             value: bits::pair(h.value, l.value),
             chip: chip,
         }
-    }
-
-    fn pul(self, acc: Accumulator, image: &[u8]) -> Chip
-        ensures { λ r. ⌜ runOn (pul acc) self (memories (now (image .entry))) ≡ ran r (memories (now (image .entry))) ⌝ }
-    {
-        let p = self.pull(image);
-        let chip = p.chip;
-        let bus = chip.bus;
-        let cpu = chip.cpu.with(acc, p.value);
-        Chip { cpu: cpu, bus: bus }
-    }
-
-    fn pulx(self, image: &[u8]) -> Chip
-        ensures { λ r. ⌜ runOn pulx self (memories (now (image .entry))) ≡ ran r (memories (now (image .entry))) ⌝ }
-    {
-        let p = self.pull_word(image);
-        let chip = p.chip;
-        let bus = chip.bus;
-        let cpu = chip.cpu.with_x(p.value);
-        Chip { cpu: cpu, bus: bus }
-    }
-
-    // The same units, at another PC.
-    fn at(self, pc: u16) -> Chip
-        ensures { λ r. ⌜ r ≡ withCpu self (withPc (self .cpu) pc) ⌝ }
-    {
-        let bus = self.bus;
-        let cpu = self.cpu.with_pc(pc);
-        Chip { cpu: cpu, bus: bus }
-    }
-
-    // JSR, and BSR.
-    fn jsr(self, at: u16, image: &mut [u8]) -> Chip
-        ensures { λ r. ⌜ runOn (jsr at) self (memories (now (image .entry))) ≡ ran r (memories (now (image .exit))) ⌝ }
-    {
-        self.push_word(self.cpu.pc, image).at(at)
-    }
-
-    fn rts(self, image: &[u8]) -> Chip
-        ensures { λ r. ⌜ runOn rts self (memories (now (image .entry))) ≡ ran r (memories (now (image .entry))) ⌝ }
-    {
-        let p = self.pull_word(image);
-        p.chip.at(p.value)
     }
 
     // All registers, PC first.
@@ -392,49 +235,93 @@ impl Chip {
     }
 }
 
-// The instruction.
+// The shapes of access.
 impl Chip {
-    fn internal(self, op: Internal) -> Chip
-        ensures { λ r. ⌜ r ≡ withCpu self (internalOf op (self .cpu)) ⌝ }
+    fn quiet(self, op: Quiet, at: u16) -> Chip
+        ensures { λ r. ⌜ r ≡ withCpu self (quietOf op at (self .cpu)) ⌝ }
     {
         let bus = self.bus;
-        let cpu = self.cpu.internal(op);
+        let cpu = op.done(at, self.cpu);
         Chip { cpu: cpu, bus: bus }
     }
 
-    fn branch(self, test: Branch, at: u16) -> Chip
-        ensures { λ r. ⌜ r ≡ withCpu self (branch test at (self .cpu)) ⌝ }
+    fn load(self, op: Loading, at: u16, image: &[u8]) -> Chip
+        ensures { λ r. ⌜ runOn (loads op at) self (memories (now (image .entry))) ≡ ran r (memories (now (image .entry))) ⌝ }
     {
-        if arithmetic::taken(test, self.cpu.codes) {
-            self.at(at)
-        } else {
-            self
-        }
+        let c = self.cpu;
+        let f = self.bus.read(image, op.address(at, c));
+        let bus = f.next;
+        let cpu = op.loaded(f.value, c);
+        Chip { cpu: cpu, bus: bus }
     }
 
+    fn load_word(self, op: LoadingWord, at: u16, image: &[u8]) -> Chip
+        ensures { λ r. ⌜ runOn (loadsWord op at) self (memories (now (image .entry))) ≡ ran r (memories (now (image .entry))) ⌝ }
+    {
+        let c = self.cpu;
+        let w = read_word(self.bus, image, op.address(at, c));
+        let bus = w.next;
+        let cpu = op.loaded(w.value, c);
+        Chip { cpu: cpu, bus: bus }
+    }
+
+    fn store(self, op: Storing, at: u16, image: &mut [u8]) -> Chip
+        ensures { λ r. ⌜ runOn (stores op at) self (memories (now (image .entry))) ≡ ran r (memories (now (image .exit))) ⌝ }
+    {
+        let c = self.cpu;
+        let bus = self.bus.write(image, op.address(at, c), op.byte(c));
+        let cpu = op.stored(c);
+        Chip { cpu: cpu, bus: bus }
+    }
+
+    fn store_word(self, op: WideStore, at: u16, image: &mut [u8]) -> Chip
+        ensures { λ r. ⌜ runOn (storesWord op at) self (memories (now (image .entry))) ≡ ran r (memories (now (image .exit))) ⌝ }
+    {
+        let c = self.cpu;
+        let bus = write_word(self.bus, image, at, c.stored(op));
+        let cpu = operations::stored_word(op, c);
+        Chip { cpu: cpu, bus: bus }
+    }
+
+    // Read, modify, write.
+    fn modify(self, op: Monadic, at: u16, image: &mut [u8]) -> Chip
+        ensures { λ r. ⌜ runOn (modifies op at) self (memories (now (image .entry))) ≡ ran r (memories (now (image .exit))) ⌝ }
+    {
+        let c = self.cpu;
+        let f = self.bus.read(image, at);
+        let r = arithmetic::monadic(op, f.value, c.codes);
+        let bus = f.next.write(image, at, r.value);
+        let cpu = c.with_codes(r.codes);
+        Chip { cpu: cpu, bus: bus }
+    }
+
+    fn push_of(self, op: Pushing, at: u16, image: &mut [u8]) -> Chip
+        ensures { λ r. ⌜ runOn (pushesWord op at) self (memories (now (image .entry))) ≡ ran r (memories (now (image .exit))) ⌝ }
+    {
+        let p = self.push_word(op.word(self.cpu), image);
+        let bus = p.bus;
+        let cpu = op.pushed(at, p.cpu);
+        Chip { cpu: cpu, bus: bus }
+    }
+}
+
+// The instruction.
+impl Chip {
     fn operate(self, operation: Operation, place: Place, at: u16, image: &mut [u8]) -> Chip
         ensures { λ r. ⌜ runOn (operate operation place at) self (memories (now (image .entry))) ≡ ran r (memories (now (image .exit))) ⌝ }
     {
-        match operation {
-            Operation::Internal(op) => self.internal(op),
-            Operation::Dyadic(op, acc) => self.dyadic(op, acc, at, image),
-            Operation::Monadic(op) => self.monadic(op, target_of(place), at, image),
-            Operation::Tst => self.tst(target_of(place), at, image),
-            Operation::Sta(acc) => self.sta(acc, at, image),
-            Operation::Wide(op) => self.wide(op, at, image),
-            Operation::WideStore(op) => self.wide_store(op, at, image),
-            Operation::Psh(acc) => self.push(self.cpu.of(acc), image),
-            Operation::Pul(acc) => self.pul(acc, image),
-            Operation::Pshx => self.push_word(self.cpu.x, image),
-            Operation::Pulx => self.pulx(image),
-            Operation::Branch(test) => self.branch(test, at),
-            Operation::Jmp => self.at(at),
-            Operation::Jsr => self.jsr(at, image),
-            Operation::Bsr => self.jsr(at, image),
-            Operation::Rts => self.rts(image),
-            Operation::Rti => self.rti(image),
-            Operation::Swi => self.swi(image),
-            Operation::Wai => self.wai(image),
+        let shape = operations::shape_of(operation, place);
+        match shape {
+            Shape::Nothing(op) => self.quiet(op, at),
+            Shape::Load(op) => self.load(op, at, image),
+            Shape::LoadWord(op) => self.load_word(op, at, image),
+            Shape::Store(op) => self.store(op, at, image),
+            Shape::StoreWord(op) => self.store_word(op, at, image),
+            Shape::Modify(op) => self.modify(op, at, image),
+            Shape::PushWord(op) => self.push_of(op, at, image),
+            Shape::Rti => self.rti(image),
+            Shape::Swi => self.swi(image),
+            Shape::Wai => self.wai(image),
         }
     }
 

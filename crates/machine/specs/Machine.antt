@@ -57,7 +57,13 @@ passedOf k m = onChip m (m .chip .cpu) (passed k (m .chip .bus))
 -- "A, B, X, SP .. waiting .. all 0; condition codes $D0"
 abbrev pub resetCpu : ℕ → Cpu
 resetCpu pc = record {
-  a = 0; b = 0; x = 0; sp = 0; pc = pc; codes = record { h = false; i = true; n = false; z = false; v = false; c = false }; waiting = false;
+  a = 0;
+  b = 0;
+  x = 0;
+  sp = 0;
+  pc = pc;
+  codes = record { h = false; i = true; n = false; z = false; v = false; c = false };
+  waiting = false;
 }
 
 -- "PC from $FFFE"

@@ -257,7 +257,11 @@ impl Machine {
     fn entry_cycles(self) -> Cycles
         ensures { λ r. ⌜ r .0 ≡ entryCycles self ⌝ }
     {
-        if self.chip.cpu.waiting { Cycles(4) } else { Cycles(12) }
+        if self.chip.cpu.waiting {
+            Cycles(4)
+        } else {
+            Cycles(12)
+        }
     }
 
     // An interrupt is entered, and its cycles pass.

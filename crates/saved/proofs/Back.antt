@@ -36,11 +36,17 @@ bytes-back l e v bytes stands codes control =
     let start = long-back (byteAt l 38) (byteAt l 39) (byteAt l 40) (byteAt l 41) (bytes 38) (bytes 39) (bytes 40) in
     (λ i.
     low-version i ∷ high-version i
-    ∷ byteAt l 2 ∷ byteAt l 3 ∷ low-back (byteAt l 4) (byteAt l 5) (bytes 4) i ∷ high-back (byteAt l 4) (byteAt l 5) (bytes 4) i ∷ low-back (byteAt l 6) (byteAt l 7) (bytes 6) i ∷ high-back (byteAt l 6) (byteAt l 7) (bytes 6) i ∷ low-back (byteAt l 8) (byteAt l 9) (bytes 8) i ∷ high-back (byteAt l 8) (byteAt l 9) (bytes 8) i
+    ∷ byteAt l 2 ∷ byteAt l 3
+    ∷ low-back (byteAt l 4) (byteAt l 5) (bytes 4) i ∷ high-back (byteAt l 4) (byteAt l 5) (bytes 4) i
+    ∷ low-back (byteAt l 6) (byteAt l 7) (bytes 6) i ∷ high-back (byteAt l 6) (byteAt l 7) (bytes 6) i
+    ∷ low-back (byteAt l 8) (byteAt l 9) (bytes 8) i ∷ high-back (byteAt l 8) (byteAt l 9) (bytes 8) i
     ∷ byte-kept (byteAt l 10) codes (bytes 10) i ∷ bool-back (byteAt l 11) (stands .waiting) i ∷ bool-back (byteAt l 12) (stands .nmi) i ∷ bool-back (byteAt l 13) (stands .irq1) i
     ∷ byteAt l 14 ∷ byteAt l 15 ∷ byteAt l 16
     ∷ byteAt l 17 ∷ byteAt l 18 ∷ byteAt l 19 ∷ byteAt l 20
-    ∷ byte-back (byteAt l 21) (bytes 21) i ∷ low-back (byteAt l 22) (byteAt l 23) (bytes 22) i ∷ high-back (byteAt l 22) (byteAt l 23) (bytes 22) i ∷ low-back (byteAt l 24) (byteAt l 25) (bytes 24) i ∷ high-back (byteAt l 24) (byteAt l 25) (bytes 24) i ∷ low-back (byteAt l 26) (byteAt l 27) (bytes 26) i ∷ high-back (byteAt l 26) (byteAt l 27) (bytes 26) i
+    ∷ byte-back (byteAt l 21) (bytes 21) i
+    ∷ low-back (byteAt l 22) (byteAt l 23) (bytes 22) i ∷ high-back (byteAt l 22) (byteAt l 23) (bytes 22) i
+    ∷ low-back (byteAt l 24) (byteAt l 25) (bytes 24) i ∷ high-back (byteAt l 24) (byteAt l 25) (bytes 24) i
+    ∷ low-back (byteAt l 26) (byteAt l 27) (bytes 26) i ∷ high-back (byteAt l 26) (byteAt l 27) (bytes 26) i
     ∷ bool-back (byteAt l 28) (stands .level) i
     ∷ byteAt l 29 ∷ byte-back (byteAt l 30) (bytes 30) i ∷ byteAt l 31 ∷ byteAt l 32
     ∷ arms-back (byteAt l 33) (bytes 33) (stands .timerArms) i ∷ arms-back (byteAt l 34) (bytes 34) (stands .serialArms) i ∷ control-back (byteAt l 35) (bytes 35) control i

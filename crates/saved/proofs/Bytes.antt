@@ -48,8 +48,16 @@ module _ (b0 b1 b2 b3 b4 b5 b6 b7 : Bool) where
 
   pub bits-kept : (bit whole 1 ≡ b0) × (bit whole 2 ≡ b1) × (bit whole 4 ≡ b2) × (bit whole 8 ≡ b3) × (bit whole 16 ≡ b4) × (bit whole 32 ≡ b5) × (bit whole 64 ≡ b6) × (bit whole 128 ≡ b7)
   bits-kept =
-      let d = digits _ _ _ _ _ _ _ _ (bool-most b0) (bool-most b1) (bool-most b2) (bool-most b3) (bool-most b4) (bool-most b5) (bool-most b6) (bool-most b7) in
-      (found 1 b0 summed (d .0), found 2 b1 summed (d .1), found 4 b2 summed (d .2), found 8 b3 summed (d .3), found 16 b4 summed (d .4), found 32 b5 summed (d .5), found 64 b6 summed (d .6), found 128 b7 summed (d .7))
+      let d = digits _ _ _ _ _ _ _ _ (bool-most b0) (bool-most b1) (bool-most b2) (bool-most b3) (bool-most b4) (bool-most b5) (bool-most b6) (bool-most b7) in (
+        found 1 b0 summed (d .0),
+        found 2 b1 summed (d .1),
+        found 4 b2 summed (d .2),
+        found 8 b3 summed (d .3),
+        found 16 b4 summed (d .4),
+        found 32 b5 summed (d .5),
+        found 64 b6 summed (d .6),
+        found 128 b7 summed (d .7),
+      )
 
 -- arms have none of bits 0 to 4, and $14 has none of bits 0 to 5
 pub arms-none : (b5 b6 b7 : Bool) → byteOf false false false false false b5 b6 b7 % 32 ≡ 0

@@ -17,7 +17,8 @@ ghost use mathlib.Core.Path.{_≡_};
 ghost use Prim.Native.Nat.{_/_, _≤_, _<_};
 ghost use Rattle.bits.specs.Bits.{weight};
 ghost use Rattle.bus.specs.Access.{ramControlOf};
-ghost use Rattle.saved.specs.Layout.{armsOf, savedOf, byteAt, wordAt, longAt, boolAt, flagOf, cpuIn, portAt, portsIn, timerIn, serialIn, busIn, machineIn};
+ghost use Rattle.saved.specs.Layout.{armsOf, savedOf, byteAt, wordAt, longAt, boolAt, flagOf};
+ghost use Rattle.saved.specs.Layout.{cpuIn, portAt, portsIn, timerIn, serialIn, busIn, machineIn};
 ghost use Rattle.saved.specs.Answers.{toldSaved, saveOf, leftOf, toldLoaded, standsOf, rangesIn, loadOf};
 
 // What saving answers.

@@ -12,4 +12,10 @@ bus-in-spec =
     (λ c κs. search needs)  -- timer-in-requires
     (λ c κs. search needs)  -- serial-in-requires
     (λ c κs. search needs)  -- long-at-requires
-    (λ c. rw (c .long-at .ensures, c .before .serial-in .ensures, c .before .before .timer-in .ensures, c .before .before .before .ports-in .ensures, c .before .before .before .before .byte-at .ensures)))  -- returns
+    (λ c. rw (
+      c .long-at .ensures,
+      c .before .serial-in .ensures,
+      c .before .before .timer-in .ensures,
+      c .before .before .before .ports-in .ensures,
+      c .before .before .before .before .byte-at .ensures,
+    )))  -- returns

@@ -15,4 +15,13 @@ cpu-in-spec =
     (λ c κs. search needs)  -- byte-at-requires-3
     (λ c κs. search needs)  -- from-byte-requires
     (λ c κs. search needs)  -- bool-at-requires
-    (λ c. rw (c .bool-at .ensures, c .before .from-byte .ensures, c .before .before .byte-at3 .ensures, c .before .before .before .word-at3 .ensures, c .before .before .before .before .word-at2 .ensures, c .before .before .before .before .before .word-at .ensures, c .before .before .before .before .before .before .byte-at2 .ensures, c .before .before .before .before .before .before .before .byte-at .ensures)))  -- returns
+    (λ c. rw (
+      c .bool-at .ensures,
+      c .before .from-byte .ensures,
+      c .before .before .byte-at3 .ensures,
+      c .before .before .before .word-at3 .ensures,
+      c .before .before .before .before .word-at2 .ensures,
+      c .before .before .before .before .before .word-at .ensures,
+      c .before .before .before .before .before .before .byte-at2 .ensures,
+      c .before .before .before .before .before .before .before .byte-at .ensures,
+    )))  -- returns

@@ -40,6 +40,16 @@ save-spec =
     (λ c. let t = c .before .loop-test .taken in omega (arith, t, c .before .before .loop .inv .1))  -- slice-write-bytes
     (λ c. let t = c .before .loop-test .taken in omega (arith, t))  -- add-k
     (λ c. let t = c .before .loop-test .taken in omega (arith, t))  -- loop-less
-    (λ c. (omega (arith, c .before .loop-test .taken), length-set (c .before .before .loop .bytes) (c .before .before .loop .k) (c .saved-byte .result) ∙ c .before .before .loop .inv .1, more _ (c .before .before .before .before .before .args .bytes .now) _ _ _ (c .before .loop-test .taken) (c .before .before .before .if1 .left) (c .before .before .loop .inv .2) (c .saved-byte .ensures)))  -- loop-again
+    (λ c. (
+      omega (arith, c .before .loop-test .taken),
+      length-set (c .before .before .loop .bytes) (c .before .before .loop .k) (c .saved-byte .result) ∙ c .before .before .loop .inv .1,
+      more _ (c .before .before .before .before .before .args .bytes .now) _ _ _ (c .before .loop-test .taken) (c .before .before .before .if1 .left) (c .before .before .loop .inv .2)
+          (c .saved-byte .ensures),
+    ))  -- loop-again
     (λ c. c .before .loop .inv .1 ∙ sym (c .before .before .if1 .left))  -- same-length
-    (λ c. (rw (eq-eqb _ _ (c .before .before .if1 .left)), rw (eq-eqb _ _ (c .before .before .if1 .left)) (full (c .before .before .before .before .args .m) (c .before .before .before .before .args .bytes .now) _ _ (c .before .before .if1 .left) (c .loop-test .left) (c .before .loop .inv .2)))))  -- returns-2
+    (λ c. (
+      rw (eq-eqb _ _ (c .before .before .if1 .left)),
+      rw (eq-eqb _ _ (c .before .before .if1 .left))
+          (full (c .before .before .before .before .args .m) (c .before .before .before .before .args .bytes .now) _ _ (c .before .before .if1 .left) (c .loop-test .left)
+          (c .before .loop .inv .2)),
+    )))  -- returns-2

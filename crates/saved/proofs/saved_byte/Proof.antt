@@ -17,9 +17,35 @@ saved-byte-spec =
     (λ c. c .cpu-byte .ensures)  -- returns-3
     (λ c κs. omega (arith, c .before .before .before .before .pre, c .before .before .before .if1 .left, c .before .before .if2 .left, c .before .if3 .left, c .if4 .taken))  -- port-byte-requires
     (λ c. c .port-byte .ensures)  -- returns-4
-    (λ c κs. omega (arith, c .before .before .before .before .before .pre, c .before .before .before .before .if1 .left, c .before .before .before .if2 .left, c .before .before .if3 .left, c .before .if4 .left, c .if5 .taken))  -- timer-byte-requires
+    (λ c κs. omega (
+      arith,
+      c .before .before .before .before .before .pre,
+      c .before .before .before .before .if1 .left,
+      c .before .before .before .if2 .left,
+      c .before .before .if3 .left,
+      c .before .if4 .left,
+      c .if5 .taken,
+    ))  -- timer-byte-requires
     (λ c. c .timer-byte .ensures)  -- returns-5
-    (λ c κs. omega (arith, c .before .before .before .before .before .before .pre, c .before .before .before .before .before .if1 .left, c .before .before .before .before .if2 .left, c .before .before .before .if3 .left, c .before .before .if4 .left, c .before .if5 .left, c .if6 .taken))  -- serial-byte-requires
+    (λ c κs. omega (
+      arith,
+      c .before .before .before .before .before .before .pre,
+      c .before .before .before .before .before .if1 .left,
+      c .before .before .before .before .if2 .left,
+      c .before .before .before .if3 .left,
+      c .before .before .if4 .left,
+      c .before .if5 .left,
+      c .if6 .taken,
+    ))  -- serial-byte-requires
     (λ c. c .serial-byte .ensures)  -- returns-6
-    (λ c κs. omega (arith, c .before .before .before .before .before .before .pre, c .before .before .before .before .before .if1 .left, c .before .before .before .before .if2 .left, c .before .before .before .if3 .left, c .before .before .if4 .left, c .before .if5 .left, c .if6 .left))  -- start-byte-requires
+    (λ c κs. omega (
+      arith,
+      c .before .before .before .before .before .before .pre,
+      c .before .before .before .before .before .if1 .left,
+      c .before .before .before .before .if2 .left,
+      c .before .before .before .if3 .left,
+      c .before .before .if4 .left,
+      c .before .if5 .left,
+      c .if6 .left,
+    ))  -- start-byte-requires
     (λ c. c .start-byte .ensures))  -- returns-7

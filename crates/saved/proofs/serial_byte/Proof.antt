@@ -25,4 +25,5 @@ serial-byte-spec =
     (λ c. there (c .before .before .before .before .args .m) (c .before .match .keys6) (c .arms2 .ensures))  -- returns-6
     (λ c. there (c .before .before .before .before .args .m) (c .before .match .keys7) (c .ram-control .ensures))  -- returns-7
     (λ c. there (c .before .before .before .before .args .m) (c .before .match .keys8) (c .lower .ensures))  -- returns-8
-    (λ c. there (c .before .before .before .before .args .m) (last 8 29 _ (c .before .before .before .before .pre .0) (c .before .before .before .before .pre .1) (c .before .match .rest)) (c .upper .ensures)))  -- returns-9
+    (λ c. there (c .before .before .before .before .args .m) (last 8 29 _ (c .before .before .before .before .pre .0) (c .before .before .before .before .pre .1) (c .before .match .rest))
+    (c .upper .ensures)))  -- returns-9

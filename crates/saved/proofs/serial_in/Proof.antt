@@ -16,4 +16,14 @@ serial-in-spec =
     (λ c κs. search needs)  -- byte-at-requires-4
     (λ c κs. search needs)  -- byte-at-requires-5
     (λ c κs. search needs)  -- word-at-requires
-    (λ c. rw (c .word-at .ensures, c .before .byte-at5 .ensures, c .before .before .byte-at4 .ensures, c .before .before .before .byte-at3 .ensures, c .before .before .before .before .flag-of3 .ensures, c .before .before .before .before .before .flag-of2 .ensures, c .before .before .before .before .before .before .flag-of .ensures, c .before .before .before .before .before .before .before .byte-at2 .ensures, c .before .before .before .before .before .before .before .before .byte-at .ensures)))  -- returns
+    (λ c. rw (
+      c .word-at .ensures,
+      c .before .byte-at5 .ensures,
+      c .before .before .byte-at4 .ensures,
+      c .before .before .before .byte-at3 .ensures,
+      c .before .before .before .before .flag-of3 .ensures,
+      c .before .before .before .before .before .flag-of2 .ensures,
+      c .before .before .before .before .before .before .flag-of .ensures,
+      c .before .before .before .before .before .before .before .byte-at2 .ensures,
+      c .before .before .before .before .before .before .before .before .byte-at .ensures,
+    )))  -- returns

@@ -15,4 +15,11 @@ stands-spec =
     (λ c κs. search needs)  -- byte-at-requires-4
     (λ c κs. search needs)  -- byte-at-requires-5
     (λ c κs. search needs)  -- byte-at-requires-6
-    (λ c. rw (c .byte-at6 .ensures, c .before .byte-at5 .ensures, c .before .before .byte-at4 .ensures, c .before .before .before .byte-at3 .ensures, c .before .before .before .before .byte-at2 .ensures, c .before .before .before .before .before .byte-at .ensures)))  -- returns
+    (λ c. rw (
+      c .byte-at6 .ensures,
+      c .before .byte-at5 .ensures,
+      c .before .before .byte-at4 .ensures,
+      c .before .before .before .byte-at3 .ensures,
+      c .before .before .before .before .byte-at2 .ensures,
+      c .before .before .before .before .before .byte-at .ensures,
+    )))  -- returns

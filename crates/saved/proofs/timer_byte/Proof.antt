@@ -28,4 +28,5 @@ timer-byte-spec =
     (λ c. there (c .before .before .before .args .m) (c .before .match .keys5) (c .upper2 .ensures))  -- returns-5
     (λ c. there (c .before .before .before .args .m) (c .before .match .keys6) (c .lower3 .ensures))  -- returns-6
     (λ c. there (c .before .before .before .args .m) (c .before .match .keys7) (c .upper3 .ensures))  -- returns-7
-    (λ c. there (c .before .before .before .args .m) (last 7 21 _ (c .before .before .before .pre .0) (c .before .before .before .pre .1) (c .before .match .rest)) (c .bool-byte .ensures)))  -- returns-8
+    (λ c. there (c .before .before .before .args .m)
+    (last 7 21 _ (c .before .before .before .pre .0) (c .before .before .before .pre .1) (c .before .match .rest)) (c .bool-byte .ensures)))  -- returns-8

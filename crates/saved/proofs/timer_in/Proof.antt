@@ -16,4 +16,14 @@ timer-in-spec =
     (λ c κs. search needs)  -- word-at-requires-2
     (λ c κs. search needs)  -- word-at-requires-3
     (λ c κs. search needs)  -- bool-at-requires
-    (λ c. rw (c .bool-at .ensures, c .before .word-at3 .ensures, c .before .before .word-at2 .ensures, c .before .before .before .word-at .ensures, c .before .before .before .before .flag-of3 .ensures, c .before .before .before .before .before .flag-of2 .ensures, c .before .before .before .before .before .before .flag-of .ensures, c .before .before .before .before .before .before .before .byte-at2 .ensures, c .before .before .before .before .before .before .before .before .byte-at .ensures)))  -- returns
+    (λ c. rw (
+      c .bool-at .ensures,
+      c .before .word-at3 .ensures,
+      c .before .before .word-at2 .ensures,
+      c .before .before .before .word-at .ensures,
+      c .before .before .before .before .flag-of3 .ensures,
+      c .before .before .before .before .before .flag-of2 .ensures,
+      c .before .before .before .before .before .before .flag-of .ensures,
+      c .before .before .before .before .before .before .before .byte-at2 .ensures,
+      c .before .before .before .before .before .before .before .before .byte-at .ensures,
+    )))  -- returns

@@ -15,4 +15,4 @@ vectored-spec =
     (λ c κs. search needs)  -- with-codes-requires
     (λ c κs. search needs)  -- with-waiting-requires
     (λ c. after _ _ _ _ (c .before .before .before .before .before .read-word .ensures)
-        (ends _ _ _ (rw (c .with-waiting .ensures, c .before .with-codes .ensures, c .before .before .with-i .ensures, c .before .before .before .with-pc .ensures)))))  -- returns
+    (ends _ _ _ (rw (c .with-waiting .ensures, c .before .with-codes .ensures, c .before .before .with-i .ensures, c .before .before .before .with-pc .ensures)))))  -- returns

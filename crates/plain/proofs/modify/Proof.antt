@@ -1,0 +1,26 @@
+use borrow.Author.Needs.{needs}
+use Rattle.plain.proofs.Hopping.{is-made, is-left}
+use Rattle.cpu.proofs.ActLaws.{after, ends}
+use Rattle.plain.proofs.Accesses.{alone, reads, writes}
+use Rattle.cpu.specs.Shapes.{modifies}
+use Rattle.plain.proofs.modify.Statement.{statement}
+use Rattle.plain.proofs.modify.Tie as tie
+
+pub modify-spec : {M : Type 1} → statement M
+unfolding modifies
+modify-spec =
+    tie.close
+    (tie.spec
+    (λ c. is-left _ _ _)  -- returns
+    (λ c κs. search needs)  -- peek-requires
+    (λ c κs. search needs)  -- monadic-requires
+    (λ c κs. search needs)  -- write-plain-requires
+    (λ c κs. search needs)  -- with-codes-requires
+    (λ c. search needs)  -- same-length
+    (λ c. is-made _ _ _ _ _ (λ b h. after _ _ _ _
+    (reads _ _ _ (alone (c .before .before .before .before .before .before .before .before .before .before .pre) (c .before .before .before .before .before .before .before .before .if1 .left))
+    (c .before .before .before .before .before .before .peek .ensures))
+    (after _ _ _ _
+    (writes _ _ _ _ (alone (c .before .before .before .before .before .before .before .before .before .before .pre) (c .before .before .before .before .before .before .before .before .if1 .left))
+    (rw (c .before .before .before .before .before .monadic .ensures) at (c .before .before .before .write-plain .ensures b h)))
+    (ends _ _ _ (rw (c .with-codes .ensures, c .before .before .before .before .before .monadic .ensures)))))))  -- returns-2
