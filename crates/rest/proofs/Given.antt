@@ -8,18 +8,18 @@ use mathlib.Core.Bool.{Bool, true, false, cond}
 use lib.Dec.{ltb}
 use lib.ListN.{length, drop}
 use borrow.Author.Tests.{lt-ltb, le-ltb, ltb-false}
+use Rattle.laws.proofs.Conds.{picks, passes}
+use Rattle.laws.proofs.Options.{some-none}
 use Rattle.session.specs.Session.{checkOf}
 use Rattle.session.specs.declared.Checked.{Checked}
-use Rattle.session.specs.declared.Checked.the-variants.{Sound, Length, Kind, Value, Time}
-use Rattle.session.proofs.Laws.{Refusal}
-use Rattle.boundary.proofs.Picks.{picks, passes}
-use Rattle.cabinet.specs.Replies.{Told, told, toldCheck}
-use Rattle.cabinet.proofs.Ends.{toldRefusal}
+use Rattle.session.specs.declared.Checked.the-variants as checked
+use Rattle.session.specs.declared.Fault.{Fault}
+use Rattle.replies.specs.Replies.{Told, told, toldFault, toldCheck}
 use Rattle.rest.specs.Rest.{placeOf, hasFewer, skipOf, restFrom, restOf}
 use Rattle.rest.specs.Ahead.{SoundFrom}
 use Rattle.rest.specs.Answers.{wrote, refuses, toldRest, firstOf, restRefusal, answerBy, restAnswer, bufferBy, restBuffer}
 use Rattle.rest.specs.declared.Rested.{Rested}
-use Rattle.rest.specs.declared.Rested.the-variants.{Written, TooFew, NoRoom}
+use Rattle.rest.specs.declared.Rested.the-variants.{Written, Bad, TooFew, NoRoom}
 use Rattle.rest.proofs.Places.{place-sound}
 use Rattle.rest.proofs.Laws.{rest-length}
 
@@ -30,29 +30,22 @@ skip-none s k = by (hasFewer s k)
   where
     by : (t : Bool) → none ≡ cond t none (some (placeOf s k)) → t ≡ true
     by true e = refl
-    by false e = let z : _≡_ {A = ℕ} 0 1 = cc in absurd (let w : ⊥ = omega arith in w)
+    by false e = some-none (sym e)
 
 skip-some : (s : List ℕ) (k at : ℕ) → some at ≡ skipOf s k → (hasFewer s k ≡ false) × (at ≡ placeOf s k)
 unfolding skipOf
 skip-some s k at = by (hasFewer s k)
   where
     by : (t : Bool) → some at ≡ cond t none (some (placeOf s k)) → (t ≡ false) × (at ≡ placeOf s k)
-    by true e = let z : _≡_ {A = ℕ} 0 1 = cc in absurd (let w : ⊥ = omega arith in w)
+    by true e = some-none e
     by false e = (refl, cc)
 
 -- the place where the unused records of a sound session begin
-pub skipped-sound : (s : List ℕ) (k at : ℕ) → checkOf s ≡ Sound → some at ≡ skipOf s k → SoundFrom s at
+pub skipped-sound : (s : List ℕ) (k at : ℕ) → checkOf s ≡ checked.Sound → some at ≡ skipOf s k → SoundFrom s at
 unfolding hasFewer
 skipped-sound s k at h e =
     let p = skip-some s k at e in
     rw (p .1) (place-sound s k h (ltb-false _ _ (p .0)))
-
-refusal-told : (c : Checked) → Refusal c → toldCheck c ≡ some (toldRefusal c)
-refusal-told Sound r = absurd r
-refusal-told (Length k) r = refl
-refusal-told (Kind k) r = refl
-refusal-told (Value k) r = refl
-refusal-told (Time k) r = refl
 
 module _ (s : List ℕ) (used cycles : ℕ) (b : List ℕ) where
   abbrev rest : List ℕ
@@ -66,11 +59,11 @@ module _ (s : List ℕ) (used cycles : ℕ) (b : List ℕ) where
   after = cond (hasFewer s used) (some (told 30 none)) room
 
   -- each way that they can go
-  pub refused-checked : (c : Checked) → Refusal c → checkOf s ≡ c → restRefusal s used cycles b ≡ some (toldRefusal c)
+  pub refused-bad : (f : Fault) → checkOf s ≡ checked.Bad f → restRefusal s used cycles b ≡ some (toldFault f)
   unfolding restRefusal
-  refused-checked c r e = ap (λ (x : Option Told). firstOf x after) (ap toldCheck e ∙ refusal-told c r)
+  refused-bad f e = ap (λ (c : Checked). firstOf (toldCheck c) after) e
 
-  module _ (sound : checkOf s ≡ Sound) where
+  module _ (sound : checkOf s ≡ checked.Sound) where
     past-check : restRefusal s used cycles b ≡ after
     unfolding restRefusal
     past-check = ap (λ (c : Checked). firstOf (toldCheck c) after) sound
@@ -97,10 +90,10 @@ module _ (s : List ℕ) (used cycles : ℕ) (b : List ℕ) where
   )
 
   -- 4 to 7, by the check of the session
-  pub given-checked : (r : Rested) (c : Checked) → toldRest r ≡ refuses (toldRefusal c) → Refusal c → checkOf s ≡ c → Gives r b
-  given-checked r c e f g = given r e (refused-checked c f g)
+  pub given-bad : (f : Fault) → checkOf s ≡ checked.Bad f → Gives (Bad f) b
+  given-bad f e = given (Bad f) refl (refused-bad f e)
 
-  module _ (sound : checkOf s ≡ Sound) where
+  module _ (sound : checkOf s ≡ checked.Sound) where
     -- 30
     pub given-fewer : none ≡ skipOf s used → Gives TooFew b
     given-fewer e = given TooFew refl (refused-30 sound (skip-none s used e))

@@ -1,12 +1,7 @@
-pub mod Lists
 pub mod Places
 pub mod Laws
 pub mod Given
 pub mod Settled
 pub mod Exactly
 pub mod Matched
-pub mod Raised
-pub mod Further
-pub mod Second
-pub mod Compose
 pub mod Worked

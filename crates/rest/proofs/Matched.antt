@@ -1,19 +1,22 @@
 -- The rest of a sound session, byte by byte: its records are the session's from a place on, but that their times are less by the
 -- cycles; and so it is sound too. Assumes nothing.
-use Prim.Native.Nat.{ℕ, zero, suc, _+_, _*_, _-_, _/_, _%_, _≤_, _<_}
+use Prim.Native.Nat.{ℕ, zero, suc, _+_, _-_, _≤_, _<_}
 use native.Mathlib.Nat.{add-assoc}
 use native.Mathlib.Omega.{arith}
 use mathlib.Core.List.{List, [], _++_, append-assoc, append-nil}
 use mathlib.Core.Path.{_≡_, refl, sym, ap, subst, _∙_}
 use mathlib.Core.Bool.{Bool, true, false}
-use lib.Dec.{leb, ltb}
+use lib.Dec.{ltb}
 use lib.ListN.{length, getD, take, drop, length-append, length-drop, List·getD-append, List·getD-eq-default}
 use lib.Seq.{length-take-le, getD-append-add, getD-take, getD-drop}
-use borrow.Author.Tests.{ltb-true, ltb-false, lt-ltb, le-ltb, le-leb, lt-leb, leb-true, leb-false}
+use borrow.Author.Tests.{ltb-true, ltb-false, lt-ltb, le-ltb}
+use Rattle.laws.proofs.Orders.{leb-shifted}
+use Rattle.numbers.specs.Numbers.{fourBytes}
+use Rattle.numbers.proofs.Laws.{four-back}
 use Rattle.session.specs.Session.{lengthAt, kindAt, timeAt, payloadAt, nextAt, eventAt, dueAt, cutShort, checkFrom, checkOf}
 use Rattle.session.specs.declared.Checked.the-variants.{Sound}
-use Rattle.session.proofs.Laws.{due-there, Fault, told-fault, check-past, check-ends}
-use Rattle.rest.specs.Rest.{fourBytes, shiftedAt, restFrom}
+use Rattle.session.proofs.Laws.{due-there, Found, told-fault, check-past, check-ends}
+use Rattle.rest.specs.Rest.{shiftedAt, restFrom}
 use Rattle.rest.specs.Ahead.{SoundFrom}
 use Rattle.rest.proofs.Places.{whole, whole-at, sound-next}
 use Rattle.rest.proofs.Laws.{rest-more, rest-done, shifted-length, rest-length}
@@ -151,17 +154,6 @@ pub data Matched (s r : List ℕ) (c from : ℕ) : ℕ → Type 0 where
   over : {at : ℕ} → length s ≤ from + at → Matched s r c from at
   goes : {at : ℕ} → from + at < length s → Alike s r c from at → Matched s r c from (nextAt r at) → Matched s r c from at
 
-four-back : (t b₀ b₁ b₂ b₃ : ℕ) → b₀ ≡ t % 256 → b₁ ≡ t / 256 % 256 → b₂ ≡ t / 65536 % 256 → b₃ ≡ t / 16777216
-    → b₀ + 256 * b₁ + 65536 * (b₂ + 256 * b₃) ≡ t
-four-back t b₀ b₁ b₂ b₃ p q u v = omega arith
-
-pub leb-shifted : (t c n : ℕ) → leb t (c + n) ≡ leb (t - c) n
-leb-shifted t c n = by (leb (t - c) n) refl
-  where
-    by : (b : Bool) → leb (t - c) n ≡ b → leb t (c + n) ≡ b
-    by true e = let h = leb-true (t - c) n e in le-leb t (c + n) (omega arith)
-    by false e = let h = leb-false (t - c) n e in lt-leb t (c + n) (omega arith)
-
 pub event-there : (s r : List ℕ) (c from at : ℕ) → Alike s r c from at → eventAt s (from + at) ≡ eventAt r at
 event-there s r c from at k = rw (k .kinds, k .values, k .stops)
 
@@ -233,8 +225,8 @@ module _ (s : List ℕ) (c from : ℕ) where
     due-goes (goes h k m) n e = (k, m)
 
     -- the tests of a record say the same of it
-    faultless : (at number before i earlier : ℕ) → Alike s r c from at → Fault s number before (from + at) Sound → before ≤ timeAt s (from + at)
-        → earlier ≤ before - c → Fault r i earlier at Sound
+    faultless : (at number before i earlier : ℕ) → Alike s r c from at → Found s number before (from + at) Sound → before ≤ timeAt s (from + at)
+        → earlier ≤ before - c → Found r i earlier at Sound
     unfolding cutShort
     faultless at number before i earlier k g l q =
         let e : length r - at ≡ length s - (from + at) = omega arith in (

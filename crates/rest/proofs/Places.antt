@@ -12,8 +12,7 @@ use lib.ListN.{length}
 use borrow.Author.Tests.{eqb-true, eqb-false, not-false, lt-ltb, le-ltb}
 use Rattle.session.specs.Session.{lengthAt, kindAt, timeAt, nextAt, lengthFor, faultAt, checkFrom, checkOf}
 use Rattle.session.specs.declared.Checked.the-variants.{Sound}
-use Rattle.session.proofs.Laws.{Fault, fault-told, sound-or-not, check-stops, sound-step}
-use Rattle.boundary.proofs.Feeding.{next-after}
+use Rattle.session.proofs.Laws.{Found, fault-told, next-after, sound-or-not, check-stops, sound-step}
 use Rattle.rest.specs.Rest.{placeOf, hasFewer, skipOf}
 use Rattle.rest.specs.Ahead.{SoundFrom}
 
@@ -32,7 +31,7 @@ known-length (suc (suc (suc (suc (suc (suc (suc (suc kind)))))))) h = absurd (h 
 
 -- what a session that is sound from a place on gives of the record there
 pub record Whole (s : List ℕ) (number before at : ℕ) : Type 0 where
-  pub faultless : Fault s number before at Sound
+  pub faultless : Found s number before at Sound
   pub long : at + 8 ≤ nextAt s at
   pub short : nextAt s at ≤ at + 10
   pub within : nextAt s at ≤ length s

@@ -2,31 +2,31 @@
 -- nothing.
 use Prim.Native.Nat.{ℕ, _-_}
 use mathlib.Core.List.{List, [], _∷_}
-use mathlib.Core.Option.{Option·getD}
-use mathlib.Core.Path.{_≡_, refl, sym, _∙_}
+use mathlib.Core.Bool.{cond}
+use mathlib.Core.Path.{_≡_, refl, sym, ap, _∙_}
+use lib.Dec.{ltb}
 use lib.ListN.{getD}
-use Rattle.cabinet.proofs.Known.{known}
+use Rattle.laws.proofs.Known.{known}
+use Rattle.session.specs.declared.Fault.the-variants.{Length, Kind, Value, Time}
+use Rattle.replies.proofs.Known.{faultBack}
 use Rattle.rest.specs.Answers.{Answer, wrote, refuses, toldRest}
 use Rattle.rest.specs.declared.Rested.{Rested}
-use Rattle.rest.specs.declared.Rested.the-variants.{Written, Length, Kind, Value, Time, TooFew, NoRoom}
+use Rattle.rest.specs.declared.Rested.the-variants.{Written, Bad, TooFew, NoRoom}
 use Rattle.rest.proofs.Given.{Gives}
-
-abbrev restBy : ℕ → ℕ → Rested
-restBy number k = getD (TooFew ∷ TooFew ∷ TooFew ∷ TooFew ∷ Length k ∷ Kind k ∷ Value k ∷ Time k ∷ []) number (getD (TooFew ∷ []) (number - 30) NoRoom)
 
 abbrev restBack : Answer → Rested
 restBack (wrote n) = Written n
-restBack (refuses t) = restBy (t .number) (Option·getD (t .named) 0)
+restBack (refuses t) = cond (ltb (t .number) 30) (Bad (faultBack t)) (getD (TooFew ∷ []) (t .number - 30) NoRoom)
 
 rest-known : (a b : Rested) → toldRest a ≡ toldRest b → a ≡ b
 rest-known = known toldRest restBack back
   where
     back : (a : Rested) → restBack (toldRest a) ≡ a
     back (Written n) = refl
-    back (Length k) = refl
-    back (Kind k) = refl
-    back (Value k) = refl
-    back (Time k) = refl
+    back (Bad (Length k)) = refl
+    back (Bad (Kind k)) = refl
+    back (Bad (Value k)) = refl
+    back (Bad (Time k)) = refl
     back TooFew = refl
     back NoRoom = refl
 

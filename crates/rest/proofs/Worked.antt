@@ -5,8 +5,9 @@ use mathlib.Core.Option.{none, some}
 use mathlib.Core.Path.{_≡_, refl}
 use lib.ListN.{take, replicate}
 use Rattle.turns.specs.Turn.{turns, loopOf}
-use Rattle.session.specs.Session.{lengthAt, kindAt, timeAt, payloadAt, nextAt, lengthFor, fits, cutShort, firstFault, faultAt, turnOf, checkFrom}
-use Rattle.cabinet.specs.Replies.{told}
+use Rattle.session.specs.Session.{lengthAt, kindAt, timeAt, payloadAt, nextAt, lengthFor, fits, cutShort}
+use Rattle.session.specs.Session.{firstFault, faultAt, checkTurn, checkFrom}
+use Rattle.replies.specs.Replies.{told}
 use Rattle.rest.specs.Rest.{placeOf, hasFewer, shiftedAt, restFrom, restOf}
 use Rattle.rest.specs.Answers.{wrote, refuses, restRefusal, restAnswer, restBuffer}
 
@@ -42,10 +43,10 @@ ones n = replicate n 1
 
 answers : restAnswer two 1 5 (ones 11) ∷ restAnswer two 1 5 (ones 8) ∷ restAnswer two 3 5 (ones 11) ∷ restAnswer (take 16 session) 1 5 (ones 11) ∷ []
     ≡ wrote 9 ∷ refuses (told 31 none) ∷ refuses (told 30 none) ∷ refuses (told 4 (some 1)) ∷ []
-unfolding restAnswer restRefusal hasFewer restOf restFrom placeOf shiftedAt lengthAt kindAt timeAt payloadAt nextAt lengthFor fits cutShort firstFault faultAt turnOf checkFrom loopOf turns
+unfolding restAnswer restRefusal hasFewer restOf restFrom placeOf shiftedAt lengthAt kindAt timeAt payloadAt nextAt lengthFor fits cutShort firstFault faultAt checkTurn checkFrom loopOf turns
 answers = refl
 
 buffers : restBuffer two 1 5 (ones 11) ∷ restBuffer two 1 5 (ones 8) ∷ []
     ≡ (7 ∷ 0 ∷ 1 ∷ 0 ∷ 0 ∷ 0 ∷ 0 ∷ 0 ∷ 0xA5 ∷ 1 ∷ 1 ∷ []) ∷ ones 8 ∷ []
-unfolding restBuffer restRefusal hasFewer restOf restFrom placeOf shiftedAt lengthAt kindAt timeAt payloadAt nextAt lengthFor fits cutShort firstFault faultAt turnOf checkFrom loopOf turns
+unfolding restBuffer restRefusal hasFewer restOf restFrom placeOf shiftedAt lengthAt kindAt timeAt payloadAt nextAt lengthFor fits cutShort firstFault faultAt checkTurn checkFrom loopOf turns
 buffers = refl

@@ -6,9 +6,9 @@ use mathlib.Core.Option.{Option, none, some}
 use lib.Dec.{ltb}
 use lib.ListN.{length, drop}
 use Rattle.session.specs.Session.{checkOf}
-use Rattle.cabinet.specs.Replies.{Told, told, toldCheck}
+use Rattle.replies.specs.Replies.{Told, told, toldFault, toldCheck}
 use Rattle.rest.specs.declared.Rested.{Rested}
-use Rattle.rest.specs.declared.Rested.the-variants.{Written, Length, Kind, Value, Time, TooFew, NoRoom}
+use Rattle.rest.specs.declared.Rested.the-variants.{Written, Bad, TooFew, NoRoom}
 use Rattle.rest.specs.Rest.{hasFewer, restOf}
 
 -- the rest was written, and is so many bytes long; or a reply's number, with the record that 4 to 7 name
@@ -18,10 +18,7 @@ pub data Answer : Type 0 where
 
 abbrev pub toldRest : Rested → Answer
 toldRest (Written n) = wrote n
-toldRest (Length k) = refuses (told 4 (some k))
-toldRest (Kind k) = refuses (told 5 (some k))
-toldRest (Value k) = refuses (told 6 (some k))
-toldRest (Time k) = refuses (told 7 (some k))
+toldRest (Bad f) = refuses (toldFault f)
 toldRest TooFew = refuses (told 30 none)
 toldRest NoRoom = refuses (told 31 none)
 

@@ -1,4 +1,3 @@
 pub mod Rest
 pub mod Answers
 pub mod Ahead
-pub mod Joined

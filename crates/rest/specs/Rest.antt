@@ -1,10 +1,11 @@
 -- The rest of a session: what is left of it for a second run after a run that used its first records and passed some cycles.
-use Prim.Native.Nat.{ℕ, zero, suc, _+_, _-_, _/_, _%_}
+use Prim.Native.Nat.{ℕ, zero, suc, _+_, _-_}
 use mathlib.Core.Bool.{Bool, cond}
-use mathlib.Core.List.{List, [], _∷_, _++_}
+use mathlib.Core.List.{List, [], _++_}
 use mathlib.Core.Option.{Option, none, some}
 use lib.Dec.{ltb}
 use lib.ListN.{length, take, drop}
+use Rattle.numbers.specs.Numbers.{fourBytes}
 use Rattle.turns.specs.Turn.{Turn, more, done, loopOf}
 use Rattle.session.specs.Session.{timeAt, nextAt}
 use Rattle.rest.specs.declared.Skipped.{Skipped}
@@ -26,10 +27,6 @@ skipOf session k = cond (hasFewer session k) none (some (placeOf session k))
 abbrev pub skipped : Skipped → Option ℕ
 skipped (At at) = some at
 skipped Fewer = none
-
--- a four-byte number, "little-endian"
-abbrev pub fourBytes : ℕ → List ℕ
-fourBytes t = t % 256 ∷ t / 256 % 256 ∷ t / 65536 % 256 ∷ t / 16777216 ∷ []
 
 -- the record at a place, its time less the cycles that have passed, and 0 where that would be below 0: length and kind, the time, the payload
 unfoldable pub shiftedAt : List ℕ → ℕ → ℕ → List ℕ

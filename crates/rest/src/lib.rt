@@ -1,5 +1,8 @@
 // The rest of a session after a run: the records that it did not use, their times less the cycles that it passed.
+use counts::Cycles;
+use counts::Records;
 use session::Checked;
+use session::Fault;
 ghost use mathlib.Core.Path.{_≡_};
 ghost use mathlib.Core.List.{[], _++_};
 ghost use Prim.Native.Nat.{_+_, _-_, _≤_};
@@ -7,18 +10,15 @@ ghost use lib.ListN.{length, drop};
 ghost use lib.Seq.{sets};
 ghost use Rattle.session.specs.Session.{nextAt, checkOf};
 ghost use Rattle.session.specs.declared.Checked.the-variants.{Sound};
-ghost use Rattle.rest.specs.Rest.{fourBytes, skipOf, skipped, shiftedAt, restFrom};
+ghost use Rattle.rest.specs.Rest.{skipOf, skipped, shiftedAt, restFrom};
 ghost use Rattle.rest.specs.Ahead.{SoundFrom};
 ghost use Rattle.rest.specs.Answers.{toldRest, restAnswer, restBuffer};
 
-// The rest was written and is so long; or the session is bad, and the record is named; or it has fewer records than were used; or
-// the buffer is shorter than the rest.
+// The rest was written and is so long; or the session is bad; or it has fewer records than were used; or the buffer is
+// shorter than the rest.
 pub enum Rested {
     Written(usize),
-    Length(usize),
-    Kind(usize),
-    Value(usize),
-    Time(usize),
+    Bad(Fault),
     TooFew,
     NoRoom,
 }
@@ -29,57 +29,37 @@ enum Skipped {
     Fewer,
 }
 
-// Bytes are stored from a place of the buffer on.
-fn copy(bytes: &[u8], from: usize, buffer: &mut [u8])
-    requires { ⌜ from + length (now bytes) ≤ length (now buffer) ⌝ }
-    ensures { λ _. ⌜ now (buffer .exit) ≡ sets (now (buffer .entry)) from (now (bytes .entry)) ⌝ }
-{
-    let mut i = 0;
-    let mut to = from;
-    while i < bytes.len() {
-        buffer[to] = bytes[i];
-        i = i + 1;
-        to = to + 1;
-    }
-}
-
-// A time's four bytes are stored, the lowest first.
-fn write_time(time: u32, to: usize, buffer: &mut [u8])
-    requires { ⌜ to + 4 ≤ length (now buffer) ⌝ }
-    ensures { λ _. ⌜ now (buffer .exit) ≡ sets (now (buffer .entry)) to (fourBytes time) ⌝ }
-{
-    buffer[to] = (time % 256) as u8;
-    buffer[to + 1] = (time / 256 % 256) as u8;
-    buffer[to + 2] = (time / 65536 % 256) as u8;
-    buffer[to + 3] = (time / 16777216) as u8;
-}
-
 // A time less the cycles that have passed, and 0 where that would be below 0.
-fn time_left(time: u32, cycles: u32) -> u32
-    ensures { λ r. ⌜ r ≡ time - cycles ⌝ }
+fn time_left(time: u32, cycles: Cycles) -> u32
+    ensures { λ r. ⌜ r ≡ time - cycles .0 ⌝ }
 {
-    if time <= cycles {
+    if time <= cycles.0 {
         return 0;
     }
-    time - cycles
+    time - cycles.0
 }
 
 // The record at a place, its time less the cycles, is stored from a place of the buffer on.
-fn copy_record(session: &[u8], at: usize, cycles: u32, to: usize, buffer: &mut [u8])
-    requires { ⌜ (at + 8 ≤ nextAt (now session) at) × (nextAt (now session) at ≤ length (now session)) × (to + (nextAt (now session) at - at) ≤ length (now buffer)) ⌝ }
-    ensures { λ _. ⌜ now (buffer .exit) ≡ sets (now (buffer .entry)) to (shiftedAt (now (session .entry)) cycles at) ⌝ }
+fn copy_record(session: &[u8], at: usize, cycles: Cycles, to: usize, buffer: &mut [u8])
+    requires { ⌜
+        (at + 8 ≤ nextAt (now session) at)
+        × (nextAt (now session) at ≤ length (now session))
+        × (to + (nextAt (now session) at - at) ≤ length (now buffer)) ⌝ }
+    ensures { λ _. ⌜ now (buffer .exit) ≡ sets (now (buffer .entry)) to (shiftedAt (now (session .entry)) (cycles .0) at) ⌝ }
 {
     let next = session::next_at(session, at);
-    let time = session::time_at(session, at);
-    copy(&session[at..at + 4], to, buffer);
-    write_time(time_left(time, cycles), to + 4, buffer);
-    copy(&session[at + 8..next], to + 8, buffer);
+    let left = time_left(session::time_at(session, at), cycles);
+    bytes::copy(&session[at..at + 4], &mut buffer[to..]);
+    numbers::put(&mut buffer[to + 4..to + 8], left as u64);
+    bytes::copy(&session[at + 8..next], &mut buffer[to + 8..]);
 }
 
 // The records from a place on are stored at the buffer's front, their times less the cycles.
-fn copy_records(session: &[u8], from: usize, cycles: u32, buffer: &mut [u8])
+fn copy_records(session: &[u8], from: usize, cycles: Cycles, buffer: &mut [u8])
     requires { ⌜ SoundFrom (now session) from × (length (now session) - from ≤ length (now buffer)) ⌝ }
-    ensures { λ _. ⌜ now (buffer .exit) ≡ restFrom (now (session .entry)) cycles from [] ++ drop (length (now (session .entry)) - from) (now (buffer .entry)) ⌝ }
+    ensures { λ _. ⌜
+        now (buffer .exit)
+        ≡ restFrom (now (session .entry)) (cycles .0) from [] ++ drop (length (now (session .entry)) - from) (now (buffer .entry)) ⌝ }
 {
     let mut at = from;
     while at < session.len() {
@@ -89,13 +69,13 @@ fn copy_records(session: &[u8], from: usize, cycles: u32, buffer: &mut [u8])
 }
 
 // The place after the records that were used.
-fn skip(session: &[u8], used: usize) -> Skipped
+fn skip(session: &[u8], used: Records) -> Skipped
     requires { ⌜ checkOf (now session) ≡ Sound ⌝ }
-    ensures { λ r. ⌜ skipped r ≡ skipOf (now (session .entry)) used ⌝ }
+    ensures { λ r. ⌜ skipped r ≡ skipOf (now (session .entry)) (used .0) ⌝ }
 {
     let mut at = 0;
     let mut passed = 0;
-    while passed < used {
+    while passed < used.0 {
         if session.len() <= at {
             return Skipped::Fewer;
         }
@@ -106,9 +86,11 @@ fn skip(session: &[u8], used: usize) -> Skipped
 }
 
 // The rest of a sound session.
-fn write_rest(session: &[u8], used: usize, cycles: u32, buffer: &mut [u8]) -> Rested
+fn write_rest(session: &[u8], used: Records, cycles: Cycles, buffer: &mut [u8]) -> Rested
     requires { ⌜ checkOf (now session) ≡ Sound ⌝ }
-    ensures { λ r. ⌜ (toldRest r ≡ restAnswer (now (session .entry)) used cycles (now (buffer .entry))) × (now (buffer .exit) ≡ restBuffer (now (session .entry)) used cycles (now (buffer .entry))) ⌝ }
+    ensures { λ r. ⌜
+        (toldRest r ≡ restAnswer (now (session .entry)) (used .0) (cycles .0) (now (buffer .entry)))
+        × (now (buffer .exit) ≡ restBuffer (now (session .entry)) (used .0) (cycles .0) (now (buffer .entry))) ⌝ }
 {
     let skipped = skip(session, used);
     match skipped {
@@ -125,15 +107,14 @@ fn write_rest(session: &[u8], used: usize, cycles: u32, buffer: &mut [u8]) -> Re
 }
 
 // The rest of a session, of which so many records were used in so many cycles, is written to the buffer's front.
-pub fn rest(session: &[u8], used: usize, cycles: u32, buffer: &mut [u8]) -> Rested
-    ensures { λ r. ⌜ (toldRest r ≡ restAnswer (now (session .entry)) used cycles (now (buffer .entry))) × (now (buffer .exit) ≡ restBuffer (now (session .entry)) used cycles (now (buffer .entry))) ⌝ }
+pub fn rest(session: &[u8], used: Records, cycles: Cycles, buffer: &mut [u8]) -> Rested
+    ensures { λ r. ⌜
+        (toldRest r ≡ restAnswer (now (session .entry)) (used .0) (cycles .0) (now (buffer .entry)))
+        × (now (buffer .exit) ≡ restBuffer (now (session .entry)) (used .0) (cycles .0) (now (buffer .entry))) ⌝ }
 {
     let checked = session::check(session);
     match checked {
         Checked::Sound => write_rest(session, used, cycles, buffer),
-        Checked::Length(k) => Rested::Length(k),
-        Checked::Kind(k) => Rested::Kind(k),
-        Checked::Value(k) => Rested::Value(k),
-        Checked::Time(k) => Rested::Time(k),
+        Checked::Bad(fault) => Rested::Bad(fault),
     }
 }

@@ -11,11 +11,12 @@
 --  12  pending NMI, 0 or 1   22  counter (2)          36  busy (2)
 --  13  IRQ1 level, 0 or 1    24  compare (2)          38  R (4)
 --                            26  capture (2)
-use Prim.Native.Nat.{ℕ, _+_, _*_, _/_}
+use Prim.Native.Nat.{ℕ, _+_, _/_}
 use mathlib.Core.Bool.{Bool, false}
 use mathlib.Core.List.{List, [], _∷_}
 use lib.Dec.{eqb}
 use lib.ListN.{getD}
+use Rattle.numbers.specs.Numbers.{two, four}
 use Rattle.bits.specs.Bits.{weight, bit, byteOf}
 use Rattle.bits.specs.Words.{high, low}
 use Rattle.bits.specs.declared.Flag.{Flag}
@@ -61,10 +62,10 @@ abbrev pub byteAt : List ℕ → ℕ → ℕ
 byteAt l k = getD l k 0
 
 abbrev pub wordAt : List ℕ → ℕ → ℕ
-wordAt l k = byteAt l k + 256 * byteAt l (k + 1)
+wordAt l k = two l 0 k
 
 abbrev pub longAt : List ℕ → ℕ → ℕ
-longAt l k = wordAt l k + 65536 * wordAt l (k + 2)
+longAt l k = four l 0 k
 
 abbrev pub boolAt : List ℕ → ℕ → Bool
 boolAt l k = eqb (byteAt l k) 1

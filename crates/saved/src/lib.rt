@@ -207,21 +207,21 @@ pub fn save(m: Machine, bytes: &mut [u8]) -> Saved
 fn byte_at(bytes: &[u8], k: usize) -> u8
     ensures { λ r. ⌜ r ≡ byteAt (now (bytes .entry)) k ⌝ }
 {
-    if k < bytes.len() { bytes[k] } else { 0 }
+    numbers::byte_at(bytes, 0, k)
 }
 
 fn word_at(bytes: &[u8], k: usize) -> u16
     requires { ⌜ k < 41 ⌝ }
     ensures { λ r. ⌜ r ≡ wordAt (now (bytes .entry)) k ⌝ }
 {
-    (byte_at(bytes, k) as u16) + 256 * (byte_at(bytes, k + 1) as u16)
+    numbers::two_at(bytes, 0, k)
 }
 
 fn long_at(bytes: &[u8], k: usize) -> u32
     requires { ⌜ k < 39 ⌝ }
     ensures { λ r. ⌜ r ≡ longAt (now (bytes .entry)) k ⌝ }
 {
-    (word_at(bytes, k) as u32) + 65536 * (word_at(bytes, k + 2) as u32)
+    numbers::four_at(bytes, 0, k)
 }
 
 fn bool_at(bytes: &[u8], k: usize) -> bool

@@ -28,6 +28,14 @@ put-spec =
     (λ c. search needs)  -- slice-write-part
     (λ c. search needs)  -- add-i
     (λ c. search needs)  -- loop-less
-    (λ c. let e = c .before .loop .inv .1 in let s = length-set (c .before .loop .part) (c .before .loop .i) (c .before .loop .rest % 256) in (omega arith, s ∙ e, c .before .loop .inv .2 ∙ bytes-more (c .before .loop .part) (c .before .loop .i) (length (c .before .before .args .part .now)) (c .before .loop .rest) (search needs) (omega arith)))  -- loop-again
+    (λ c.
+    let l = c .before .loop in
+    let e = l .inv .1 in
+    let s = length-set (l .part) (l .i) (l .rest % 256) in
+    let n = length (c .before .before .args .part .now) in
+    (omega arith, s ∙ e, l .inv .2 ∙ bytes-more (l .part) (l .i) n (l .rest) (search needs) (omega arith)))  -- loop-again
     (λ c. search needs)  -- same-length
-    (λ c. sym (c .before .loop .inv .2 ∙ bytes-all (c .before .loop .part) (c .before .loop .i) (length (c .before .before .args .part .now)) (c .before .loop .rest) (search needs) (omega arith))))  -- returns
+    (λ c.
+    let l = c .before .loop in
+    let n = length (c .before .before .args .part .now) in
+    sym (l .inv .2 ∙ bytes-all (l .part) (l .i) n (l .rest) (search needs) (omega arith))))  -- returns

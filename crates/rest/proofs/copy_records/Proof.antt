@@ -2,14 +2,14 @@
 use Prim.Native.Nat.{_-_}
 use native.Mathlib.Omega.{arith}
 use lib.ListN.{length}
-use Rattle.boundary.proofs.Feeding.{next-after}
+use Rattle.session.proofs.Laws.{next-after}
 use Rattle.rest.proofs.Places.{whole-at}
 use Rattle.rest.proofs.Laws.{Copying, copying-starts, copying-goes, copying-ends}
 use Rattle.rest.proofs.copy_records.Statement.{statement}
 use Rattle.rest.proofs.copy_records.Tie as tie
 
 abbrev Inv-loop : tie.InvT-loop
-Inv-loop session from cycles buffer₀ at₀ buffer at = Copying session cycles from buffer₀ at buffer
+Inv-loop session from cycles buffer₀ at₀ buffer at = Copying session (cycles .0) from buffer₀ at buffer
 
 abbrev μ-loop : tie.MeasureT-loop
 μ-loop session from cycles buffer₀ at₀ buffer at = length session - at
@@ -44,8 +44,10 @@ loop-less c =
 
 loop-again : tie.Need-loop-again Inv-loop μ-loop
 loop-again c =
-    let l = c .before .before .before .before .before .before .loop in
-    copying-goes _ _ _ _ (c .before .before .before .before .before .before .before .before .before .pre .1) (l .at) (l .buffer) (c .before .before .before .before .before .loop-test .taken) (l .inv) (c .before .before .before .copy-record .ensures) (c .next-at .ensures)
+    let head = c .before .before .before .before .before .before in
+    let l = head .loop in
+    copying-goes _ _ _ _ (head .before .before .before .pre .1) (l .at) (l .buffer) (c .before .before .before .before .before .loop-test .taken)
+    (l .inv) (c .before .before .before .copy-record .ensures) (c .next-at .ensures)
 
 same-length : tie.Need-same-length Inv-loop μ-loop
 same-length c = c .before .loop .inv .long

@@ -8,7 +8,8 @@ use Rattle.rest.proofs.write_rest.Statement.{statement}
 use Rattle.rest.proofs.write_rest.Tie as tie
 
 -- where the unused records begin
-there : (c : tie.After-skipped) → some (c .skipped .given .0 .0) ≡ skipOf (c .before .before .before .before .before .args .session .now) (c .before .before .before .before .before .args .used)
+there : (c : tie.After-skipped) → let a = c .before .before .before .before .before .args in
+    some (c .skipped .given .0 .0) ≡ skipOf (a .session .now) (a .used .0)
 there c = sym (ap skipped (c .skipped .given .1)) ∙ c .before .before .skip .ensures
 
 pub write-rest-spec : {M : Type 1} → statement M
@@ -23,4 +24,7 @@ write-rest-spec =
     (λ c κs. (skipped-sound _ _ _ (c .before .before .before .before .before .before .before .before .pre) (there (c .before .before .before)), c .before .if1 .left))  -- copy-records-requires
     (λ c. given-fewer _ _ _ _ (c .before .before .before .before .before .pre) (rw (c .enum-told .given .1) at (c .before .before .skip .ensures)))  -- returns-2
     (λ c. search needs)  -- same-length
-    (λ c. given-written _ _ _ _ (c .before .before .before .before .before .before .before .before .before .before .before .pre) _ (there (c .before .before .before .before .before .before)) (c .before .before .before .before .if1 .left) (c .before .before .copy-records .ensures)))  -- returns-3
+    (λ c.
+    let at = c .before .before .before .before .before .before in
+    given-written _ _ _ _ (at .before .before .before .before .before .pre) _ (there at) (c .before .before .before .before .if1 .left)
+    (c .before .before .copy-records .ensures)))  -- returns-3

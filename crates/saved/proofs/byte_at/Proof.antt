@@ -1,6 +1,7 @@
--- `saved::byte_at` meets its contract: past the end the definition reads 0 too. Assumes nothing.
-use mathlib.Core.Path.{sym}
-use lib.ListN.{List·getD-eq-default}
+-- `saved::byte_at` meets its contract: it is the byte k after the front. Assumes nothing.
+use native.Mathlib.Nat.{zero-add}
+use mathlib.Core.Path.{ap, _∙_}
+use lib.ListN.{getD}
 use borrow.Author.Needs.{needs}
 use Rattle.saved.proofs.byte_at.Statement.{statement}
 use Rattle.saved.proofs.byte_at.Tie as tie
@@ -9,6 +10,5 @@ pub byte-at-spec : {M : Type 1} → statement M
 byte-at-spec =
     tie.close
     (tie.spec
-    (λ c. search needs)  -- shared-slice-read-result
-    (λ c. search needs)  -- returns
-    (λ c. sym (List·getD-eq-default (c .before .args .bytes .now) 0 (c .if1 .left))))  -- returns-2
+    (λ c κs. search needs)  -- byte-at-requires
+    (λ c. let a = c .before .before .args in c .byte-at .ensures ∙ ap (λ k. getD (a .bytes .now) k 0) (zero-add (a .k))))  -- returns

@@ -17,13 +17,13 @@ use Rattle.boundary.specs.Start.{startWorld, ranOf}
 use Rattle.boundary.proofs.Keeps.{Keeps, run-holds}
 use Rattle.boundary.proofs.Kept.{place-within}
 use Rattle.boundary.proofs.Output.{filled-part}
 use Rattle.rest.specs.Rest.{placeOf, restFrom, restOf}
 use Rattle.rest.specs.Ahead.{SoundFrom}
 use Rattle.rest.proofs.Places.{place-next, place-sound}
 use Rattle.rest.proofs.Laws.{rest-length}
 use Rattle.rest.proofs.Matched.{Matched, rest-matched, rest-sound}
-use Rattle.rest.proofs.Raised.{Past, raised, Apart, Raises, Ends, run-raised}
-use Rattle.rest.proofs.Further.{run-further}
+use Rattle.composing.proofs.Raised.{Past, raised, Apart, Raises, Ends, run-raised}
+use Rattle.composing.proofs.Further.{run-further}
 
 -- the first unused record of a run stands after as many records as it used
 placed : (session : List ℕ) (n : ℕ) → Keeps session n (λ w. placeOf session (w .state .used .0) ≡ w .state .place)

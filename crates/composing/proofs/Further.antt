@@ -10,7 +10,7 @@ use borrow.Author.Tests.{leb-true, leb-false}
 use Rattle.turns.specs.Turn.{Turn, more, done}
 use Rattle.boundary.specs.declared.Stop.the-variants.{Limit, Undefined, Full}
 use Rattle.boundary.specs.Boundary.{World, Ended, worldOf, recordsOf, sendsOf, sentWorld, actOf, sendOf, boundaryOf, runOf}
-use Rattle.boundary.proofs.Picks.{cases}
+use Rattle.laws.proofs.Conds.{cases}
 use Rattle.boundary.proofs.Cases.{at-limit, below-limit}
 use Rattle.boundary.proofs.Runs.{Then, act-cases, run-more, run-keeps}
 

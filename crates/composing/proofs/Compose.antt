@@ -17,17 +17,18 @@ use Rattle.boundary.specs.Start.{startWorld, ranOf}
 use Rattle.boundary.proofs.Kept.{image-length}
 use Rattle.boundary.proofs.Output.{filled-part}
 use Rattle.boundary.proofs.InRanges.{run-ranges}
-use Rattle.cabinet.specs.Replies.{Told, told, toldStop}
+use Rattle.replies.specs.Replies.{Told, told}
+use Rattle.cabinet.specs.Replies.{toldStop}
 use Rattle.cabinet.specs.declared.Ran.{Ran}
 use Rattle.cabinet.specs.Answers.{End, endAt, endOf, Answer, answerAt, answered, answerOf, leapsOf}
 use Rattle.cabinet.proofs.Exactly.{Admitted, admitted-end, reply-0}
 use Rattle.cabinet.proofs.Settled.{Single}
 use Rattle.rest.specs.Rest.{restOf}
-use Rattle.rest.specs.Joined.{joined}
+use Rattle.composing.specs.Joined.{joined}
 use Rattle.rest.specs.Answers.{wrote, restAnswer, restBuffer}
-use Rattle.rest.proofs.Exactly.{rest-written}
-use Rattle.rest.proofs.Raised.{raised, apart-most}
-use Rattle.rest.proofs.Second.{pastOf, secondOf, restAfter, used-within, after-sound, after-short, runs-raise}
+use Rattle.rest.proofs.Exactly.{rest-written, rest-left}
+use Rattle.composing.proofs.Raised.{raised, apart-most}
+use Rattle.composing.proofs.Second.{pastOf, secondOf, restAfter, used-within, after-sound, after-short, runs-raise}
 
 -- the stop that tells 0
 limit-told : (k : Stop) → toldStop k ≡ told 0 none → k ≡ Limit
@@ -149,8 +150,10 @@ module _ (image : List ℕ) (m : Machine) (session : List ℕ) (n₁ n : ℕ) (o
           after-short session m image output n₁ (admitted .1),
           (λ l.
               let r = restAfter session m image output n₁ in
-              let w = rest-written session _ _ buffer (admitted .1) (used-within session m image output n₁ (admitted .1)) l in
-              (w .0, ap (take (length r)) (w .1) ∙ take-append-seam r (drop (length r) buffer))),
+              let w = (admitted .1, used-within session m image output n₁ (admitted .1), l) in (
+                rest-written session _ _ buffer (length r) .1 (w, refl),
+                ap (take (length r)) (rest-left session _ _ buffer w) ∙ take-append-seam r (drop (length r) buffer),
+              )),
         )
 
   module _ (l : n₁ ≤ n) (b : n ≤ 1000000000) (e : firstAnswer .reply ≡ told 0 none) where

@@ -11,7 +11,7 @@ use lib.ListN.{length, length-append}
 use borrow.Author.Tests.{le-leb, lt-leb, leb-true, leb-false}
 use Rattle.turns.specs.Turn.{Turn, more, done}
 use Rattle.session.specs.Session.{dueAt}
-use Rattle.session.proofs.Laws.{due-there}
+use Rattle.session.proofs.Laws.{next-after, due-there}
 use Rattle.bus.specs.Units.{byteSent}
 use Rattle.machine.specs.declared.Machine.{Machine}
 use Rattle.machine.specs.declared.Cause.{Cause}
@@ -23,10 +23,11 @@ use Rattle.machine.specs.Events.{appliedOf, onBus}
 use Rattle.machine.specs.Steps.{Stepped, enteredOf, stepOf}
 use Rattle.boundary.specs.declared.State.{State}
 use Rattle.boundary.specs.Boundary.{World, Ended, worldOf, movedOf, takenOf, recordsOf, sendsOf, sentState, sentWorld, enteredWorld, waitedState, onPending, actOf, sendOf, boundaryOf, runOf}
-use Rattle.boundary.proofs.Feeding.{records-more, records-done, next-after}
+use Rattle.boundary.proofs.Feeding.{records-more, records-done}
 use Rattle.boundary.proofs.Runs.{Then, run-more, run-done, run-keeps}
-use Rattle.rest.proofs.Lists.{set-append-add}
-use Rattle.rest.proofs.Matched.{Alike, Matched, event-there, next-there, due-shifted, due-goes, leb-shifted}
+use Rattle.laws.proofs.Lists.{set-append-add}
+use Rattle.laws.proofs.Orders.{leb-shifted}
+use Rattle.rest.proofs.Matched.{Alike, Matched, event-there, next-there, due-shifted, due-goes}
 
 -- what a first run has done: where the first unused record stands, its counts, and the filled part of its output
 pub record Past : Type 0 where

@@ -1,0 +1,4 @@
+pub mod Raised
+pub mod Further
+pub mod Second
+pub mod Compose

@@ -1,0 +1,1 @@
+// Definitions and theorems alone: two runs as one.
