@@ -64,7 +64,7 @@ kept-zero t s u c = by (stops (t .number))
         (λ e h d. absurd (let z : ⊥ = omega arith in z))
         (λ e h l d. absurd (let z : ⊥ = omega arith in z))
         (λ e h l d. d)
-    by false e = e
+    by false = λ e. e
 
 -- a slice that goes on has fewer cycles left
 less : (left cycles : ℕ) → min left 1000000000 ≤ cycles → 0 < left - cycles → left - cycles < left

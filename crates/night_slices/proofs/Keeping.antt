@@ -85,8 +85,8 @@ module _ (size : ℕ) (session spare : List ℕ) (h : size ≤ length session) (
         omega arith
 
     -- it is within the buffer that it was written to, and there is room for it in the session's
-    pub written-within : {spare′ : List ℕ} → length spare′ ≡ length spare → n ≤ length spare′
-    written-within f = let w = written-size in omega arith
+    pub written-within : (spare′ : List ℕ) → length spare′ ≡ length spare → n ≤ length spare′
+    written-within spare′ f = let w = written-size in omega arith
 
     pub written-room : (spare′ : List ℕ) → length (take n spare′) ≤ length session
     written-room spare′ = let w = written-size in let l = length-take n spare′ in omega arith

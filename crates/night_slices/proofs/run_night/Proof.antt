@@ -1,11 +1,12 @@
 -- `night_slices::run_night` meets its contract: the slices, one after another. Assumes nothing.
 use Prim.Native.Nat.{ℕ, _≤_, _<_}
 use native.Mathlib.Omega.{arith}
-use mathlib.Core.Bool.{Bool, true, false}
+use mathlib.Core.Bool.{Bool}
 use mathlib.Core.Path.{_≡_, refl, sym, ap, subst, _∙_}
-use lib.ListN.{length, take}
+use lib.ListN.{length}
 use borrow.Author.Needs.{needs}
 use borrow.Author.Tests.{not-true, not-false}
+use Rattle.boundary.specs.World.{lent}
 use Rattle.night_slices.specs.declared.Night.{Night}
 use Rattle.night_slices.specs.Slices.{Standing, standing, sliceOf, slicesOf, goesOn}
 use Rattle.night_slices.proofs.Going.{slice-falls, slices-more, slices-done, night-refused, night-runs}
@@ -14,7 +15,7 @@ use Rattle.night_slices.proofs.run_night.Tie as tie
 
 abbrev Inv-loop : tie.InvT-loop
 Inv-loop image₀ session₀ size n output₀ spare₀ size′ night₀ image session output spare night =
-    (slicesOf (standing night₀ image₀ session₀ output₀) ≡ slicesOf (standing night image session output))
+    (slicesOf (standing night₀ (lent image₀ output₀) session₀) ≡ slicesOf (standing night (lent image output) session))
     × (length image ≡ length image₀) × (length session ≡ length session₀) × (length output ≡ length output₀) × (length spare ≡ length spare₀)
     × (night .length ≤ length session) × (night .length ≤ length spare) × (night .sent ≤ length output)
 
@@ -30,15 +31,15 @@ start-requires c κs = search needs
 returns : tie.Need-returns Inv-loop μ-loop
 returns c =
     let a = c .before .before .before .before .before .before .before .args in
-    ap (λ (n : Night). standing n (a .image .now) (a .session .now) (a .output .now)) (c .start .ensures)
-    ∙ night-refused (a .image .now) (a .m) (a .session .now) (a .size) (a .n) (a .output .now) (length (a .spare .now)) (c .before .before .least .ensures) (c .before .if1 .taken)
+    let given = lent (a .image .now) (a .output .now) in
+    ap (λ (n : Night). standing n given (a .session .now)) (c .start .ensures)
+    ∙ night-refused (a .session .now) (a .size) (a .n) (a .m) given (length (a .spare .now)) (c .before .before .least .ensures) (c .before .if1 .taken)
 
 start-requires-2 : tie.Need-start-requires-2 Inv-loop μ-loop
 start-requires-2 c κs = search needs
 
 loop-holds : tie.Need-loop-holds Inv-loop μ-loop
 loop-holds c =
-    let a = c .before .before .before .before .before .before .before .args in
     let l : c .start2 .result .length ≡ c .before .before .least .result = ap (λ (n : Night). n .length) (c .start2 .ensures) in
     let s : c .start2 .result .sent ≡ 0 = ap (λ (n : Night). n .sent) (c .start2 .ensures) in
     let e = c .before .before .least .ensures in
@@ -46,57 +47,61 @@ loop-holds c =
     (refl, refl, refl, refl, refl, omega (arith, l, e), omega (arith, l, r), omega (arith, s))
 
 slice-requires : tie.Need-slice-requires Inv-loop μ-loop
-slice-requires c κs = (c .before .before .before .before .loop .inv .5, c .before .before .before .before .loop .inv .6, c .before .before .before .before .loop .inv .7)
+slice-requires c κs = let i = c .before .before .before .before .loop .inv in (i .5, i .6, i .7)
 
 goes-on-requires : tie.Need-goes-on-requires Inv-loop μ-loop
 goes-on-requires c κs = search needs
 
 same-length : tie.Need-same-length Inv-loop μ-loop
-same-length c = c .before .before .before .before .before .before .before .before .before .before .slice .kept .0 ∙ c .before .before .before .before .before .before .before .before .before .before .before .before .before .before .before .loop .inv .1
+same-length c = let b = c .before .before .before .before .before .before .before .before .before .before in b .slice .kept .0 ∙ b .before .before .before .before .before .loop .inv .1
 
 same-length-2 : tie.Need-same-length-2 Inv-loop μ-loop
-same-length-2 c = c .before .before .before .before .before .before .before .before .before .before .slice .kept .1 .0 ∙ c .before .before .before .before .before .before .before .before .before .before .before .before .before .before .before .loop .inv .2
+same-length-2 c = let b = c .before .before .before .before .before .before .before .before .before .before in b .slice .kept .1 .0 ∙ b .before .before .before .before .before .loop .inv .2
 
 same-length-3 : tie.Need-same-length-3 Inv-loop μ-loop
-same-length-3 c = c .before .before .before .before .before .before .before .before .before .before .slice .kept .1 .1 .0 ∙ c .before .before .before .before .before .before .before .before .before .before .before .before .before .before .before .loop .inv .3
+same-length-3 c = let b = c .before .before .before .before .before .before .before .before .before .before in b .slice .kept .1 .1 .0 ∙ b .before .before .before .before .before .loop .inv .3
 
 same-length-4 : tie.Need-same-length-4 Inv-loop μ-loop
-same-length-4 c = c .before .before .before .before .before .before .before .before .before .before .slice .kept .1 .1 .1 .0 ∙ c .before .before .before .before .before .before .before .before .before .before .before .before .before .before .before .loop .inv .4
+same-length-4 c = let b = c .before .before .before .before .before .before .before .before .before .before in b .slice .kept .1 .1 .1 .0 ∙ b .before .before .before .before .before .loop .inv .4
 
 -- the night that the slice began with
 abbrev began : tie.After-goes-on Inv-loop μ-loop → Standing
-began c = let l = c .before .before .before .before .before .before .before .before .before .before .before .before .before .before .loop in standing (l .night) (l .image) (l .session) (l .output)
+began c =
+    let l = c .before .before .before .before .before .before .before .before .before .before .before .before .before .before .loop in
+    standing (l .night) (lent (l .image) (l .output)) (l .session)
 
 goes : (c : tie.After-goes-on Inv-loop μ-loop) {b : Bool} → c .goes-on .result ≡ b → goesOn (sliceOf (began c)) ≡ b
 goes c e = sym (ap goesOn (c .before .before .before .before .before .before .before .before .before .slice .ensures .0)) ∙ sym (c .goes-on .ensures) ∙ e
 
 returns-2 : tie.Need-returns-2 Inv-loop μ-loop
 returns-2 c =
-    let a = c .before .before .before .before .before .before .before .before .before .before .before .before .before .before .before .before .before .before .before .before .before .before .before .args in
+    let b = c .before .before .before .before .before .before .before .before .before .before .before .before .before .before .before in
+    let a = b .before .before .before .before .before .before .before .before .args in
+    let given = lent (a .image .now) (a .output .now) in
     c .before .before .before .before .before .before .before .before .before .before .slice .ensures .0
     ∙ sym (slices-done (began (c .before)) (goes (c .before) (not-true _ (c .if2 .taken))))
-    ∙ sym (c .before .before .before .before .before .before .before .before .before .before .before .before .before .before .before .loop .inv .0)
-    ∙ ap (λ (n : Night). slicesOf (standing n (a .image .now) (a .session .now) (a .output .now))) (c .before .before .before .before .before .before .before .before .before .before .before .before .before .before .before .before .start2 .ensures)
-    ∙ night-runs (a .image .now) (a .m) (a .session .now) (a .size) (a .n) (a .output .now) (length (a .spare .now)) (c .before .before .before .before .before .before .before .before .before .before .before .before .before .before .before .before .before .before .least .ensures) (c .before .before .before .before .before .before .before .before .before .before .before .before .before .before .before .before .before .if1 .left)
+    ∙ sym (b .loop .inv .0)
+    ∙ ap (λ (n : Night). slicesOf (standing n given (a .session .now))) (b .before .start2 .ensures)
+    ∙ night-runs (a .session .now) (a .size) (a .n) (a .m) given (length (a .spare .now)) (b .before .before .before .least .ensures) (b .before .before .if1 .left)
 
 loop-less : tie.Need-loop-less Inv-loop μ-loop
 loop-less c =
-    subst (λ (t : Standing). t .left < began (c .before) .left) (sym (c .before .before .before .before .before .before .before .before .before .before .slice .ensures .0)) (slice-falls (began (c .before)) (goes (c .before) (not-false _ (c .if2 .left))))
+    subst (λ (t : Standing). t .left < began (c .before) .left) (sym (c .before .before .before .before .before .before .before .before .before .before .slice .ensures .0))
+    (slice-falls (began (c .before)) (goes (c .before) (not-false _ (c .if2 .left))))
 
 loop-again : tie.Need-loop-again Inv-loop μ-loop
 loop-again c =
-    let l = c .before .before .before .before .before .before .before .before .before .before .before .before .before .before .before .loop in
+    let i = c .before .before .before .before .before .before .before .before .before .before .before .before .before .before .before .loop .inv in
     let s = c .before .before .before .before .before .before .before .before .before .before .slice in
     let k = s .kept in
-    let f = s .ensures .1 in
-    let i = l .inv in (
-      l .inv .0 ∙ slices-more (began (c .before)) (goes (c .before) (not-false _ (c .if2 .left))) ∙ sym (ap slicesOf (s .ensures .0)),
+    let f = s .ensures .1 in (
+      i .0 ∙ slices-more (began (c .before)) (goes (c .before) (not-false _ (c .if2 .left))) ∙ sym (ap slicesOf (s .ensures .0)),
       k .0 ∙ i .1,
       k .1 .0 ∙ i .2,
       k .1 .1 .0 ∙ i .3,
       k .1 .1 .1 .0 ∙ i .4,
-      (let x = k .1 .0 in let y = f in let z = i .5 in omega (arith, x, y, z)),
-      (let x = k .1 .1 .1 .0 in let y = f in let z = i .6 in omega (arith, x, y, z)),
+      (let x = k .1 .0 in let z = i .5 in omega (arith, x, f, z)),
+      (let x = k .1 .1 .1 .0 in let z = i .6 in omega (arith, x, f, z)),
       (let x = k .1 .1 .0 in let y = s .ensures .2 in omega (arith, x, y)),
     )
 

@@ -19,4 +19,13 @@ after-spec =
     (λ c κs. search needs)  -- wrapping-add-u64-requires-5
     (λ c. search needs)  -- cast-wrapping-add-u64-4
     (λ c κs. search needs)  -- wrapping-add-u64-requires-6
-    (λ c. rw (c .before .before .before .before .before .before .before .before .before .before .before .before .left-after .ensures, c .before .before .before .before .before .before .before .before .before .wrapping-add-u64 .ensures, c .before .before .before .before .before .before .before .wrapping-add-u642 .ensures, c .before .before .before .before .before .wrapping-add-u643 .ensures, c .before .before .before .wrapping-add-u644 .ensures, c .before .before .wrapping-add-u645 .ensures, c .wrapping-add-u646 .ensures)))  -- returns
+    (λ c.
+    rw (
+      c .before .before .before .before .before .before .before .before .before .before .before .before .left-after .ensures,
+      c .before .before .before .before .before .before .before .before .before .wrapping-add-u64 .ensures,
+      c .before .before .before .before .before .before .before .wrapping-add-u642 .ensures,
+      c .before .before .before .before .before .wrapping-add-u643 .ensures,
+      c .before .before .before .wrapping-add-u644 .ensures,
+      c .before .before .wrapping-add-u645 .ensures,
+      c .wrapping-add-u646 .ensures,
+    )))  -- returns
