@@ -57,7 +57,13 @@ fn tell(reply: u32, number: usize, result: &mut [u8]) -> u32
 }
 
 // The rest of a session, of which so many records were used in so many cycles.
-pub fn rest(session: &[u8], used: Records, cycles: Cycles, buffer: &mut [u8], result: &mut [u8]) -> u32
+pub fn rest(
+    session: &[u8],
+    used: Records,
+    cycles: Cycles,
+    buffer: &mut [u8],
+    result: &mut [u8],
+) -> u32
     ensures { λ k. ⌜ rested k (now (buffer .exit)) (now (result .exit))
         ≡ restCall (now (session .entry)) (used .0) (cycles .0) (now (buffer .entry)) (now (result .entry)) ⌝ }
 {

@@ -24,7 +24,11 @@ run-call-spec =
     (λ c κs. search needs)  -- run-either-requires
     (λ c κs. search needs)  -- save-requires
     (λ c κs. search needs)  -- counted-requires
-    (λ c κs. let k = c .before .before .before .before .before .before .before .before .before .before .before .before .before in let e = k .before .before .before .before .before .before .before .before .before .record-size .ensures in let h = k .before .before .before .before .before .before .before .before .if1 .left in omega arith)  -- report-requires
+    (λ c κs.
+    let k = c .before .before .before .before .before .before .before .before .before .before .before .before .before in
+    let e = k .before .before .before .before .before .before .before .before .before .record-size .ensures in
+    let h = k .before .before .before .before .before .before .before .before .if1 .left in
+    omega arith)  -- report-requires
     (λ c. search needs)  -- enum-told
     (λ c. search needs)  -- enum-told-2
     (λ c. search needs)  -- enum-told-3
@@ -52,19 +56,22 @@ run-call-spec =
     let a = c .before .before .before .before .before .before .before .before .before .before .before .args in
     let t = terms (a .session .now) (a .n) in
     let b = buffers (a .machine .now) (lent (a .image .now) (a .output .now)) (a .result .now) in
-    on-loaded (a .leaping) t b (c .before .before .before .before .before .record-size .ensures) (c .before .before .before .before .if1 .left) (c .before .before .load .ensures) _ (c .enum-told .given .1))  -- returns-3
+    on-loaded (a .leaping) t b (c .before .before .before .before .before .record-size .ensures) (c .before .before .before .before .if1 .left)
+    (c .before .before .load .ensures) _ (c .enum-told .given .1))  -- returns-3
     (λ c. search needs)  -- same-length-6
     (λ c.
     let a = c .before .before .before .before .before .before .before .before .before .before .before .args in
     let t = terms (a .session .now) (a .n) in
     let b = buffers (a .machine .now) (lent (a .image .now) (a .output .now)) (a .result .now) in
-    on-loaded (a .leaping) t b (c .before .before .before .before .before .record-size .ensures) (c .before .before .before .before .if1 .left) (c .before .before .load .ensures) _ (c .enum-told2 .given .1))  -- returns-4
+    on-loaded (a .leaping) t b (c .before .before .before .before .before .record-size .ensures) (c .before .before .before .before .if1 .left)
+    (c .before .before .load .ensures) _ (c .enum-told2 .given .1))  -- returns-4
     (λ c. search needs)  -- same-length-7
     (λ c.
     let a = c .before .before .before .before .before .before .before .before .before .before .before .args in
     let t = terms (a .session .now) (a .n) in
     let b = buffers (a .machine .now) (lent (a .image .now) (a .output .now)) (a .result .now) in
-    on-loaded (a .leaping) t b (c .before .before .before .before .before .record-size .ensures) (c .before .before .before .before .if1 .left) (c .before .before .load .ensures) _ (c .enum-told3 .given .1))  -- returns-5
+    on-loaded (a .leaping) t b (c .before .before .before .before .before .record-size .ensures) (c .before .before .before .before .if1 .left)
+    (c .before .before .load .ensures) _ (c .enum-told3 .given .1))  -- returns-5
     (λ c. search needs)  -- same-length-8
     (λ c. search needs)  -- same-length-9
     (λ c. search needs)  -- same-length-10
@@ -74,4 +81,5 @@ run-call-spec =
     let t = terms (a .session .now) (a .n) in
     let b = buffers (a .machine .now) (lent (a .image .now) (a .output .now)) (a .result .now) in
     refused-2 (a .leaping) t b (c .before .before .before .before .unfit .ensures) (c .before .before .refuse .ensures)
-    ∙ on-loaded (a .leaping) t b (l .before .before .before .before .before .record-size .ensures) (l .before .before .before .before .if1 .left) (l .before .before .load .ensures) _ (l .enum-told4 .given .1)))  -- returns-6
+    ∙ on-loaded (a .leaping) t b (l .before .before .before .before .before .record-size .ensures) (l .before .before .before .before .if1 .left)
+    (l .before .before .load .ensures) _ (l .enum-told4 .given .1)))  -- returns-6

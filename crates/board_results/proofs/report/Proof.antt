@@ -12,4 +12,6 @@ report-spec =
     (λ c κs. search needs)  -- record-requires
     (λ c κs. search needs)  -- record-requires-2
     (λ c. search needs)  -- same-length
-    (λ c. (c .before .before .before .before .before .number .ensures, rw (← c .before .before .before .before .before .number .ensures, ← c .before .before .before .before .«record» .ensures) (c .before .before .record2 .ensures))))  -- returns
+    (λ c.
+    let n = c .before .before .before .before .before .number .ensures in
+    (n, rw (← n, ← c .before .before .before .before .«record» .ensures) (c .before .before .record2 .ensures))))  -- returns
