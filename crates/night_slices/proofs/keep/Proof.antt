@@ -96,9 +96,10 @@ keep-spec =
     (λ c. search needs)  -- same-length-3
     (λ c. search needs)  -- same-length-4
     (λ c.
-    let b = c .before .before .before .before .before .before .before .before in (
+    let b = c .before .before .before .before .before .before .before .before in
+    let r = c .before .before .rested2 in (
       ap (λ (t : Told). keeping t (had b)) (c .refusal .ensures)
-          ∙ keeps b (Bad _) (sym (ap toldRest (c .before .before .rested2 .given .1)) ∙ c .before .before .before .before .before .before .rest .ensures .0),
+          ∙ keeps b (Bad (r .given .0 .0)) (sym (ap toldRest (r .given .1)) ∙ c .before .before .before .before .before .before .rest .ensures .0),
       omega arith,
     ))  -- returns-3
     (λ c. search needs)  -- same-length-5
