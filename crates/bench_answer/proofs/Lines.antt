@@ -34,7 +34,7 @@ use Rattle.bench_answer.specs.Answer.{numbersOf, stopText, textOf, onPow
 stop-short : (a : Answer) → Short 200 (stopText a)
 unfolding stopText
 stop-short a =
-    (short (ascii "stop ") then decimal-short (a .reply .number)) then counts-short (numbersOf a) then registers-short (a .machine .chip .cpu)
+    (short (ascii "stop ") then decimal-short (a .reply .number)) then counts-short (numbersOf a) then registers-short (a .machine .chip .registers)
 
 text-short : (a : Answer) → Short 200 (textOf a)
 unfolding textOf
@@ -78,7 +78,7 @@ refused-other k none h e =
     let w : ⊥ = omega (arith, z) in w
 refused-other k (some r) h e =
     let z : _≡_ {A = ℕ} 32 48 =
-    sym (ap (λ (d : List ℕ). getD (ascii "refused " ++ d ++ ascii " record " ++ decimalOf r ++ ascii "\n") 9 0) (one-digit k h))
+    sym (ap (λ (d : List ℕ). getD (ascii "refused " ++ d ++ (ascii " record " ++ decimalOf r) ++ ascii "\n") 9 0) (one-digit k h))
     ∙ ap (λ (t : List ℕ). getD t 9 0) e in
     let w : ⊥ = omega (arith, z) in w
 

@@ -11,7 +11,8 @@ use Rattle.machine.proofs.Ranges.{ranges-say, say-ranges}
 use Rattle.boundary.specs.World.{Lent, Terms, World}
 use Rattle.boundary.specs.Start.{startWorld, ranOf}
 use Rattle.boundary_theorems.specs.Trace as trace
-use Rattle.boundary_theorems.specs.Tallies.{Tally, talliesOf, total}
+use Rattle.turns.specs.Recorded.{total}
+use Rattle.boundary_theorems.specs.Tallies.{Tally, talliesOf}
 use Rattle.boundary_theorems.proofs.LeapBound.{leap-bound}
 use Rattle.boundary_theorems.proofs.Output.{filled-part}
 use Rattle.boundary_theorems.proofs.Kept.{image-length, cycles-bound}

@@ -8,7 +8,7 @@ use mathlib.Core.List.{List}
 use lib.Dec.{leb, eqb}
 use lib.ListN.{length}
 use borrow.Author.Tests.{leb-true, leb-false, eqb-true}
-use Rattle.turns.specs.Turn.{Turn}
+use Rattle.turns.specs.Turn.{Turn, Then}
 use Rattle.registers.specs.Cpu.{idles}
 use Rattle.serial.specs.Serial.{wantsToSend, sentOf}
 use Rattle.machine.specs.declared.Machine.{Machine}
@@ -25,7 +25,7 @@ use Rattle.boundary.specs.World.{Terms, World, Ended, memoriesIn}
 use Rattle.boundary.specs.Boundary.{recordsOf, fedWorld, sendsOf, sentState, sentWorld, executedOf, onPending, actOf, sendOf, boundaryOf, runOf}
 use Rattle.laws.proofs.Conds.{cases}
 use Rattle.boundary.proofs.Cases.{records-cycles}
-use Rattle.boundary.proofs.Runs.{Then, run-keeps}
+use Rattle.boundary.proofs.Runs.{run-keeps}
 use Rattle.cabinet.specs.Answers.{Answer, toldStop, endAt, answerAt}
 
 -- 0: "the cycle limit N is reached"; 8: "the opcode to be executed is undefined", so no byte is to be sent, no interrupt to be

@@ -13,6 +13,7 @@ stopped-spec =
     (λ c κs. search needs)  -- empty-requires
     (λ c. search needs)  -- slice-aggregate-numbered
     (λ c κs. search needs)  -- number-requires
+    (λ c. search needs)  -- cast-numbered
     (λ c κs. search needs)  -- numbered-requires
     (λ c κs. search needs)  -- numbers-requires
     (λ c κs. search needs)  -- counts-requires

@@ -1,8 +1,5 @@
+-- `run_single` meets its contract: either run's answer. Assumes nothing.
 use borrow.Author.Needs.{needs}
-use mathlib.Core.Path.{ap, _∙_}
-use Rattle.boundary.specs.World.{lent}
-use Rattle.cabinet.specs.declared.Ran.{Ran}
-use Rattle.cabinet.specs.Answers.{answered, answerAt}
 use Rattle.cabinet.proofs.run_single.Statement.{statement}
 use Rattle.cabinet.proofs.run_single.Tie as tie
 
@@ -10,10 +7,7 @@ pub run-single-spec : {M : Type 1} → statement M
 run-single-spec =
     tie.close
     (tie.spec
-    (λ c κs. search needs)  -- end-requires
-    (λ c κs. search needs)  -- report-requires
+    (λ c κs. search needs)  -- run-either-requires
     (λ c. search needs)  -- same-length
     (λ c. search needs)  -- same-length-2
-    (λ c.
-        let e = c .before .before .before .before .before .end in
-        ap (λ (r : Ran). answered r (lent (e .last .1 .0) (e .last .1 .1 .1 .1 .1 .0))) (c .report .ensures) ∙ ap answerAt (e .ensures)))  -- returns
+    (λ c. c .before .before .before .before .before .run-either .ensures .0))  -- returns

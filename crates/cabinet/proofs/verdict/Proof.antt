@@ -11,5 +11,6 @@ verdict-spec =
     (tie.spec
     (λ c. search needs)  -- enum-told
     (λ c. search needs)  -- enum-known-c
+    (λ c κs. search needs)  -- refusal-requires
     (λ c. ap toldCheck (sym (c .enum-told .given .1)))  -- returns
     (λ c. ap some (c .refusal .ensures) ∙ ap toldCheck (sym (c .before .before .c .given .1))))  -- returns-2
