@@ -263,14 +263,7 @@ impl Night {
             sent: self.sent as u64,
         };
         let ended = self.ended;
-        closing(
-            ended,
-            self.slices.0,
-            n,
-            self.leaps.0,
-            self.machine.chip.cpu,
-        )
-            .text(b"\n")
+        closing(ended, self.slices.0, n, self.leaps.0, self.machine.chip.cpu).text(b"\n")
     }
 }
 
