@@ -14,5 +14,5 @@ byte-spec =
     (λ c κs. search needs)  -- digit-requires-2
     (λ c κs. search needs)  -- put-requires-2
     (λ c.
-      rw (c .put2 .ensures, c .before .before .put .ensures, c .before .before .before .digit .ensures, c .before .digit2 .ensures)
-      (puts-byte _ (c .before .before .before .before .args .v) (omega arith))))  -- returns
+    rw (c .put2 .ensures, c .before .before .put .ensures, c .before .before .before .digit .ensures, c .before .digit2 .ensures)
+    (puts-byte _ (c .before .before .before .before .args .v) (omega arith))))  -- returns

@@ -16,6 +16,6 @@ decimal-spec =
     (λ c. search needs)  -- slice-aggregate-text
     (λ c κs. search needs)  -- text-requires
     (λ c.
-      let told = c .before .before .decimal .ensures .1 in
-      c .text .ensures
-      ∙ ap (λ t. putsOf (c .before .before .before .before .args .self) t) (told .1 ∙ decimal-digits _ _ (omega arith) (told .0))))  -- returns
+    let told = c .before .before .decimal .ensures .1 in
+    c .text .ensures
+    ∙ ap (λ t. putsOf (c .before .before .before .before .args .self) t) (told .1 ∙ decimal-digits _ _ (omega arith) (told .0))))  -- returns

@@ -26,6 +26,6 @@ text-spec =
     (λ c. omega (arith, c .before .before .loop-test .taken))  -- add-i
     (λ c. omega (arith, c .before .before .loop-test .taken))  -- loop-less
     (λ c.
-      let more = c .before .before .loop-test .taken in
-      (omega (arith, more), puts-turn _ _ _ more (c .before .before .before .loop .inv .1) (c .put .ensures)))  -- loop-again
+    let more = c .before .before .loop-test .taken in
+    (omega (arith, more), puts-turn _ _ _ more (c .before .before .before .loop .inv .1) (c .put .ensures)))  -- loop-again
     (λ c. sym (c .before .loop .inv .1 ∙ puts-all _ _ _ (c .loop-test .left))))  -- returns
