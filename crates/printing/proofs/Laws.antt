@@ -32,6 +32,11 @@ puts-more text l i h =
     ap (λ (t : List ℕ). putsOf l t) (drop-cons text i 0 h)
     ∙ ap (λ (k : ℕ). putsOf (putOf l (getD text i 0)) (drop k text)) (sym (add-one i))
 
+-- a byte put, and the rest of the text: what is left of the loop
+pub puts-turn : (text : List ℕ) (l : Line) (i : ℕ) {m r : Line} → i < length text → r ≡ putsOf l (drop i text)
+    → m ≡ putOf l (getD text i 0) → r ≡ putsOf m (drop (i + 1) text)
+puts-turn text l i h e p = e ∙ puts-more text l i h ∙ ap (λ (m : Line). putsOf m (drop (i + 1) text)) (sym p)
+
 pub puts-all : (text : List ℕ) (l : Line) (i : ℕ) → length text ≤ i → putsOf l (drop i text) ≡ l
 unfolding putsOf
 puts-all text l i h = ap (λ (t : List ℕ). putsOf l t) (drop-of-length-le text h)
@@ -72,8 +77,12 @@ decimal-digits n (suc k) l (a, b, c) = fewest k 20 n (few (ltb k 20) refl) b mos
         absurd (let z : ⊥ = omega arith in z)
 
 -- a byte's two digits, and a word's four
-pub byte-digits : (v : ℕ) → v < 256 → digitOf (v / 16) ∷ digitOf (v % 16) ∷ [] ≡ hexadecimalOf 2 v
+byte-digits : (v : ℕ) → v < 256 → digitOf (v / 16) ∷ digitOf (v % 16) ∷ [] ≡ hexadecimalOf 2 v
 byte-digits v h = let e : v / 16 % 16 ≡ v / 16 = omega arith in rw e
+
+pub puts-byte : (l : Line) (v : ℕ) → v < 256 → putOf (putOf l (digitOf (v / 16))) (digitOf (v % 16)) ≡ putsOf l (hexadecimalOf 2 v)
+unfolding putsOf
+puts-byte l v h = ap (λ (t : List ℕ). putsOf l t) (byte-digits v h)
 
 pub word-digits : (v : ℕ) → hexadecimalOf 2 (v / 256) ++ hexadecimalOf 2 (v % 256) ≡ hexadecimalOf 4 v
 word-digits v =

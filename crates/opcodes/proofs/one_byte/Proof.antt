@@ -22,14 +22,14 @@ one-byte-spec =
     (λ c κs. search needs)
     (λ c κs. search needs)
     (λ c.
-      let a = c .before .args in
-      at-keys (λ (k : ℕ). oneByteOf k (a .place) (a .length) (a .cycles)) (λ _. Undefined) 0x1 (0x5 ∷ 0xB ∷ []) refl _ (c .match .keys1))
+    let a = c .before .args in
+    at-keys (λ (k : ℕ). oneByteOf k (a .place) (a .length) (a .cycles)) (λ _. Undefined) 0x1 (0x5 ∷ 0xB ∷ []) refl _ (c .match .keys1))
     (λ c.
-      let a = c .before .args in
-      at-keys (λ (k : ℕ). oneByteOf k (a .place) (a .length) (a .cycles)) (λ _. Undefined) 0x2 (0xE ∷ []) refl _ (c .match .keys2))
+    let a = c .before .args in
+    at-keys (λ (k : ℕ). oneByteOf k (a .place) (a .length) (a .cycles)) (λ _. Undefined) 0x2 (0xE ∷ []) refl _ (c .match .keys2))
     (λ c. rw (c .before .match .keys3) (c .entry .ensures))
     (λ c.
-      let a = c .before .before .before .args in
-      rw (c .entry2 .ensures, c .before .monadic-4 .ensures)
-      (others (λ (k : ℕ). oneByteOf k (a .place) (a .length) (a .cycles)) (λ (k : ℕ). is (Monadic (getD monadics k Clr)) (a .place) (a .length) (a .cycles))
-      ((0xD ∷ []) ∷ (0x2 ∷ 0xE ∷ []) ∷ (0x1 ∷ 0x5 ∷ 0xB ∷ []) ∷ []) 16 refl _ (omega arith) (c .before .before .match .rest))))
+    let a = c .before .before .before .args in
+    rw (c .entry2 .ensures, c .before .monadic-4 .ensures)
+    (others (λ (k : ℕ). oneByteOf k (a .place) (a .length) (a .cycles)) (λ (k : ℕ). is (Monadic (getD monadics k Clr)) (a .place) (a .length) (a .cycles))
+    ((0xD ∷ []) ∷ (0x2 ∷ 0xE ∷ []) ∷ (0x1 ∷ 0x5 ∷ 0xB ∷ []) ∷ []) 16 refl _ (omega arith) (c .before .before .match .rest))))

@@ -32,6 +32,6 @@ operation-8-spec =
     (λ c. rw (c .before .match .keys5, c .either3 .ensures))
     (λ c. rw (c .before .match .keys6, c .either-store .ensures))
     (λ c.
-      let a = c .before .before .args .accumulator in
-      rw (c .dyadic-8 .ensures)
-      (others (λ (k : ℕ). getD (operations8 a) k Jsr) (λ (k : ℕ). Dyadic (getD dyadics k Sub) a) (each (0xF ∷ 0xE ∷ 0xD ∷ 0xC ∷ 0x7 ∷ 0x3 ∷ [])) 16 refl _ (omega arith) (c .before .match .rest))))
+    let a = c .before .before .args .accumulator in
+    rw (c .dyadic-8 .ensures)
+    (others (λ (k : ℕ). getD (operations8 a) k Jsr) (λ (k : ℕ). Dyadic (getD dyadics k Sub) a) (each (0xF ∷ 0xE ∷ 0xD ∷ 0xC ∷ 0x7 ∷ 0x3 ∷ [])) 16 refl _ (omega arith) (c .before .match .rest))))

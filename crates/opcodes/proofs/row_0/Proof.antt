@@ -20,4 +20,5 @@ row-0-spec =
     (λ c κs. search needs)
     (λ c. search needs)
     (λ c κs. search needs)
-    (λ c. row-is (λ (k : ℕ). definedOf (Internal (getD internals0 k Nop)) Inherent 1 (getD cycles0 k 0)) row0 (c .before .before .args .low) (rw (c .before .internal-0 .ensures) at (c .defined .ensures)) refl (omega arith)))
+    (λ c. row-is (λ (k : ℕ). definedOf (Internal (getD internals0 k Nop)) Inherent 1 (getD cycles0 k 0)) row0 (c .before .before .args .low)
+    (rw (c .before .internal-0 .ensures) at (c .defined .ensures)) refl (omega arith)))

@@ -20,4 +20,5 @@ row-1-spec =
     (λ c κs. search needs)
     (λ c. search needs)
     (λ c κs. search needs)
-    (λ c. row-is (λ (k : ℕ). definedOf (Internal (getD internals1 k Nop)) Inherent 1 (getD cycles1 k 0)) row1 (c .before .before .args .low) (rw (c .before .internal-1 .ensures) at (c .defined .ensures)) refl (omega arith)))
+    (λ c. row-is (λ (k : ℕ). definedOf (Internal (getD internals1 k Nop)) Inherent 1 (getD cycles1 k 0)) row1 (c .before .before .args .low)
+    (rw (c .before .internal-1 .ensures) at (c .defined .ensures)) refl (omega arith)))

@@ -19,4 +19,5 @@ row-3-spec =
     (λ c κs. search needs)
     (λ c. search needs)
     (λ c κs. search needs)
-    (λ c. row-is (λ (k : ℕ). definedOf (getD operations3 k Swi) Inherent 1 (getD cycles3 k 0)) row3 (c .before .before .args .low) (rw (c .before .operation-3 .ensures) at (c .defined .ensures)) refl (omega arith)))
+    (λ c. row-is (λ (k : ℕ). definedOf (getD operations3 k Swi) Inherent 1 (getD cycles3 k 0)) row3 (c .before .before .args .low)
+    (rw (c .before .operation-3 .ensures) at (c .defined .ensures)) refl (omega arith)))

@@ -1,14 +1,11 @@
 -- `Line::byte` meets its contract: the two digits of a byte. Assumes nothing.
 use native.Mathlib.Omega.{arith}
-use mathlib.Core.Path.{ap}
 use borrow.Author.Needs.{needs}
-use Rattle.printing.specs.Printing.{putsOf}
-use Rattle.printing.proofs.Laws.{byte-digits}
+use Rattle.printing.proofs.Laws.{puts-byte}
 use Rattle.printing.proofs.Line.byte.Statement.{statement}
 use Rattle.printing.proofs.Line.byte.Tie as tie
 
 pub byte-spec : {M : Type 1} → statement M
-unfolding putsOf
 byte-spec =
     tie.close
     (tie.spec
@@ -16,4 +13,6 @@ byte-spec =
     (λ c κs. search needs)  -- put-requires
     (λ c κs. search needs)  -- digit-requires-2
     (λ c κs. search needs)  -- put-requires-2
-    (λ c. rw (c .put2 .ensures, c .before .before .put .ensures, c .before .before .before .digit .ensures, c .before .digit2 .ensures) (ap (λ t. putsOf (c .before .before .before .before .args .self) t) (byte-digits (c .before .before .before .before .args .v) (omega arith)))))  -- returns
+    (λ c.
+    rw (c .put2 .ensures, c .before .before .put .ensures, c .before .before .before .digit .ensures, c .before .digit2 .ensures)
+    (puts-byte _ (c .before .before .before .before .args .v) (omega arith))))  -- returns

@@ -15,4 +15,7 @@ decimal-spec =
     (λ c. search needs)  -- array-share-prefix-digits
     (λ c. search needs)  -- slice-aggregate-text
     (λ c κs. search needs)  -- text-requires
-    (λ c. c .text .ensures ∙ ap (λ t. putsOf (c .before .before .before .before .args .self) t) (c .before .before .decimal .ensures .1 .1 ∙ decimal-digits _ _ (omega arith) (c .before .before .decimal .ensures .1 .0))))  -- returns
+    (λ c.
+    let told = c .before .before .decimal .ensures .1 in
+    c .text .ensures
+    ∙ ap (λ t. putsOf (c .before .before .before .before .args .self) t) (told .1 ∙ decimal-digits _ _ (omega arith) (told .0))))  -- returns

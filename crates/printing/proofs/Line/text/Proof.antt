@@ -1,10 +1,10 @@
 -- `Line::text` meets its contract: each turn puts one byte more. Assumes nothing.
-use Prim.Native.Nat.{_-_, _+_, _≤_}
+use Prim.Native.Nat.{_-_, _≤_}
 use native.Mathlib.Omega.{arith}
-use mathlib.Core.Path.{_≡_, refl, sym, ap, _∙_}
+use mathlib.Core.Path.{_≡_, refl, sym, _∙_}
 use lib.ListN.{length, drop}
 use Rattle.printing.specs.Printing.{putsOf}
-use Rattle.printing.proofs.Laws.{puts-more, puts-all}
+use Rattle.printing.proofs.Laws.{puts-turn, puts-all}
 use Rattle.printing.proofs.Line.text.Statement.{statement}
 use Rattle.printing.proofs.Line.text.Tie as tie
 
@@ -25,5 +25,7 @@ text-spec =
     (λ c κs. tt)  -- put-requires
     (λ c. omega (arith, c .before .before .loop-test .taken))  -- add-i
     (λ c. omega (arith, c .before .before .loop-test .taken))  -- loop-less
-    (λ c. (omega (arith, c .before .before .loop-test .taken), c .before .before .before .loop .inv .1 ∙ puts-more _ _ _ (c .before .before .loop-test .taken) ∙ ap (λ l. putsOf l (drop (c .before .before .before .loop .i + 1) (c .before .before .before .before .before .args .text .now))) (sym (c .put .ensures))))  -- loop-again
+    (λ c.
+    let more = c .before .before .loop-test .taken in
+    (omega (arith, more), puts-turn _ _ _ more (c .before .before .before .loop .inv .1) (c .put .ensures)))  -- loop-again
     (λ c. sym (c .before .loop .inv .1 ∙ puts-all _ _ _ (c .loop-test .left))))  -- returns
