@@ -57,7 +57,9 @@ module _ (asked : Terms) (m : Machine) (given : Lent) where
       × (a .lent .output ≡ take (a .sent) (a .lent .output) ++ drop (a .sent) (given .output))
   output-left =
       left-cases asked m given
-      (λ w. let k = w .state .sent .0 in let o = w .lent .output in (k ≤ length (given .output)) × (length o ≡ length (given .output)) × (length (take k o) ≡ k) × (o ≡ take k o ++ drop k (given .output)))
+      (λ w. let k = w .state .sent .0 in
+      let o = w .lent .output in
+      (k ≤ length (given .output)) × (length o ≡ length (given .output)) × (length (take k o) ≡ k) × (o ≡ take k o ++ drop k (given .output)))
       (omega arith, refl, refl, refl)
       (λ f. filled-part asked m given)
 
@@ -100,6 +102,9 @@ module _ (asked : Terms) (m : Machine) (given : Lent) where
       let c = amounts-told asked m given in
       let tallies = talliesOf asked (startWorld m given) in
       subst
-      (λ (x : End). let s = x .world .state in (s .cycles .0 ≡ total (λ (t : Tally). t .cycles) tallies) × (s .used .0 ≡ total (λ (t : Tally). t .records) tallies) × (s .sent .0 ≡ total (λ (t : Tally). t .bytes) tallies))
+      (λ (x : End). let s = x .world .state in
+      (s .cycles .0 ≡ total (λ (t : Tally). t .cycles) tallies)
+      × (s .used .0 ≡ total (λ (t : Tally). t .records) tallies)
+      × (s .sent .0 ≡ total (λ (t : Tally). t .bytes) tallies))
       (sym (admitted-end asked m given h))
       (c .cycles, c .used, c .sent)

@@ -20,4 +20,6 @@ slice-line-spec =
     (λ c κs. search needs)  -- text-requires
     (λ c.
         rw (← c .before .before .before .before .before .before .before .empty .ensures)
-        (puts-then _ _ _ (puts-then _ _ _ (puts-then _ _ _ (c .before .before .before .before .before .numbered .ensures) (c .before .before .before .numbered2 .ensures)) (c .before .before .leapt .ensures)) (c .text .ensures))))  -- returns
+        (puts-then _ _ _
+        (puts-then _ _ _ (puts-then _ _ _ (c .before .before .before .before .before .numbered .ensures) (c .before .before .before .numbered2 .ensures)) (c .before .before .leapt .ensures))
+        (c .text .ensures))))  -- returns

@@ -19,4 +19,6 @@ stopped-spec =
     (λ c κs. search needs)  -- registers-requires
     (λ c.
         rw (← c .before .before .before .before .before .before .empty .ensures)
-        (puts-then _ _ _ (puts-then _ _ _ (puts-then _ _ _ (c .before .before .before .before .numbered .ensures) (c .before .before .numbered2 .ensures)) (c .before .leapt .ensures)) (c .registers .ensures))))  -- returns
+        (puts-then _ _ _
+        (puts-then _ _ _ (puts-then _ _ _ (c .before .before .before .before .numbered .ensures) (c .before .before .numbered2 .ensures)) (c .before .leapt .ensures))
+        (c .registers .ensures))))  -- returns
