@@ -50,17 +50,17 @@ answer-spec =
     (λ c. search needs)  -- slice-aggregate-text-2
     (λ c κs. search needs)  -- text-requires-2
     (λ c.
-        let d = c .before .before .before .before .before .before in
-        puts-then _ _ _
-        (c .before .before .refused .ensures
-        ∙ ap (λ t. putsOf emptyLine t) (bad-text (d .before .before .before .before .args .input .now) (sym (d .load .ensures .0) ∙ c .before .before .before .enum-told .given .1)))
-        (c .text .ensures))  -- returns
+    let d = c .before .before .before .before .before .before in
+    puts-then _ _ _
+    (c .before .before .refused .ensures
+    ∙ ap (λ t. putsOf emptyLine t) (bad-text (d .before .before .before .before .args .input .now) (sym (d .load .ensures .0) ∙ c .before .before .before .enum-told .given .1)))
+    (c .text .ensures))  -- returns
     (λ c.
-        let d = c .before .before .before .before .before .before .before .before .before .before in
-        let input = d .before .before .before .before .args .input .now in
-        puts-then _ _ _
-        (c .before .before .before .powered .ensures
-        ∙ ap (λ t. putsOf emptyLine t)
-        (run-text input (d .load .last .1 .0) _ _ _ (sym (d .load .ensures .0) ∙ c .before .before .before .before .before .before .before .loaded .given .1)
-        (d .load .ensures .1 ∙ ap (λ l. imageOf input l) (d .before .before .blank .ensures .0))))
-        (c .text2 .ensures)))  -- returns-2
+    let d = c .before .before .before .before .before .before .before .before .before .before in
+    let input = d .before .before .before .before .args .input .now in
+    puts-then _ _ _
+    (c .before .before .before .powered .ensures
+    ∙ ap (λ t. putsOf emptyLine t)
+    (run-text input (d .load .last .1 .0) _ _ _ (sym (d .load .ensures .0) ∙ c .before .before .before .before .before .before .before .loaded .given .1)
+    (d .load .ensures .1 ∙ ap (λ l. imageOf input l) (d .before .before .blank .ensures .0))))
+    (c .text2 .ensures)))  -- returns-2

@@ -12,7 +12,7 @@ use Rattle.bench_input.proofs.load.Tie as tie
 -- a run record stands after the loads
 runs : (c : tie.After-four-at2)
     → isRun (c .before .before .before .before .before .before .before .before .before .before .before .before .args .input .now)
-      (c .before .before .before .before .before .before .before .before .after-loads .result) ≡ true
+    (c .before .before .before .before .before .before .before .before .after-loads .result) ≡ true
 runs c = sym (c .before .before .before .before .before .before .before .is-run .ensures) ∙ not-false _ (c .before .before .before .before .before .before .if2 .left)
 
 pub load-spec : {M : Type 1} → statement M

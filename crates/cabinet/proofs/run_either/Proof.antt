@@ -15,6 +15,7 @@ run-either-spec =
     (λ c. search needs)  -- same-length
     (λ c. search needs)  -- same-length-2
     (λ c.
-        let e = c .before .before .before .before .before .end in
-        (ap (λ (r : Ran). answered r (lent (e .last .1 .0) (e .last .1 .1 .1 .1 .1 .0))) (c .report .ensures) ∙ ap answerAt (e .ensures),
-        ap (λ (x : End). x .world .state .leaps .0) (e .ensures))))  -- returns
+    let e = c .before .before .before .before .before .end in (
+      ap (λ (r : Ran). answered r (lent (e .last .1 .0) (e .last .1 .1 .1 .1 .1 .0))) (c .report .ensures) ∙ ap answerAt (e .ensures),
+      ap (λ (x : End). x .world .state .leaps .0) (e .ensures),
+    )))  -- returns

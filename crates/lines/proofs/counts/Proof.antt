@@ -21,12 +21,12 @@ counts-spec =
     (λ c. search needs)  -- slice-aggregate-numbered-5
     (λ c κs. search needs)  -- numbered-requires-5
     (λ c.
-        puts-then _ _ _
-        (puts-then _ _ _
-        (puts-then _ _ _
-        (puts-then _ _ _
-        (c .before .before .before .before .before .before .before .before .numbered .ensures)
-        (c .before .before .before .before .before .before .numbered2 .ensures))
-        (c .before .before .before .before .numbered3 .ensures))
-        (c .before .before .numbered4 .ensures))
-        (c .numbered5 .ensures)))  -- returns
+    puts-then _ _ _
+    (puts-then _ _ _
+    (puts-then _ _ _
+    (puts-then _ _ _
+    (c .before .before .before .before .before .before .before .before .numbered .ensures)
+    (c .before .before .before .before .before .before .numbered2 .ensures))
+    (c .before .before .before .before .numbered3 .ensures))
+    (c .before .before .numbered4 .ensures))
+    (c .numbered5 .ensures)))  -- returns

@@ -24,15 +24,15 @@ registers-spec =
     (λ c κs. search needs)  -- to-byte-requires
     (λ c κs. search needs)  -- with-byte-requires-3
     (λ c.
-        rw (← c .before .to-byte .ensures)
-        (puts-then _ _ _
-        (puts-then _ _ _
-        (puts-then _ _ _
-        (puts-then _ _ _
-        (puts-then _ _ _
-        (c .before .before .before .before .before .before .before .before .before .before .before .with-word .ensures)
-        (c .before .before .before .before .before .before .before .before .before .with-byte .ensures))
-        (c .before .before .before .before .before .before .before .with-byte2 .ensures))
-        (c .before .before .before .before .before .with-word2 .ensures))
-        (c .before .before .before .with-word3 .ensures))
-        (c .with-byte3 .ensures))))  -- returns
+    rw (← c .before .to-byte .ensures)
+    (puts-then _ _ _
+    (puts-then _ _ _
+    (puts-then _ _ _
+    (puts-then _ _ _
+    (puts-then _ _ _
+    (c .before .before .before .before .before .before .before .before .before .before .before .with-word .ensures)
+    (c .before .before .before .before .before .before .before .before .before .with-byte .ensures))
+    (c .before .before .before .before .before .before .before .with-byte2 .ensures))
+    (c .before .before .before .before .before .with-word2 .ensures))
+    (c .before .before .before .with-word3 .ensures))
+    (c .with-byte3 .ensures))))  -- returns

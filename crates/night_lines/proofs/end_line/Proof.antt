@@ -13,6 +13,6 @@ end-line-spec =
     (λ c κs. search needs)  -- number-requires
     (λ c κs. search needs)  -- stopped-requires
     (λ c.
-        rw (← c .before .before .before .is-stop .ensures, c .before .before .if1 .taken, ← c .before .number .ensures) (c .stopped .ensures))  -- returns
+    rw (← c .before .before .before .is-stop .ensures, c .before .before .if1 .taken, ← c .before .number .ensures) (c .stopped .ensures))  -- returns
     (λ c κs. search needs)  -- refusal-line-requires
     (λ c. rw (← c .before .before .is-stop .ensures, c .before .if1 .left) (c .refusal-line .ensures)))  -- returns-2

@@ -19,7 +19,7 @@ slice-line-spec =
     (λ c. search needs)  -- slice-aggregate-text
     (λ c κs. search needs)  -- text-requires
     (λ c.
-        rw (← c .before .before .before .before .before .before .before .empty .ensures)
-        (puts-then _ _ _
-        (puts-then _ _ _ (puts-then _ _ _ (c .before .before .before .before .before .numbered .ensures) (c .before .before .before .numbered2 .ensures)) (c .before .before .leapt .ensures))
-        (c .text .ensures))))  -- returns
+    rw (← c .before .before .before .before .before .before .before .empty .ensures)
+    (puts-then _ _ _
+    (puts-then _ _ _ (puts-then _ _ _ (c .before .before .before .before .before .numbered .ensures) (c .before .before .before .numbered2 .ensures)) (c .before .before .leapt .ensures))
+    (c .text .ensures))))  -- returns

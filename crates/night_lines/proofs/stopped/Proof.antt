@@ -18,7 +18,7 @@ stopped-spec =
     (λ c κs. search needs)  -- leapt-requires
     (λ c κs. search needs)  -- registers-requires
     (λ c.
-        rw (← c .before .before .before .before .before .before .empty .ensures)
-        (puts-then _ _ _
-        (puts-then _ _ _ (puts-then _ _ _ (c .before .before .before .before .numbered .ensures) (c .before .before .numbered2 .ensures)) (c .before .leapt .ensures))
-        (c .registers .ensures))))  -- returns
+    rw (← c .before .before .before .before .before .before .empty .ensures)
+    (puts-then _ _ _
+    (puts-then _ _ _ (puts-then _ _ _ (c .before .before .before .before .numbered .ensures) (c .before .before .numbered2 .ensures)) (c .before .leapt .ensures))
+    (c .registers .ensures))))  -- returns
