@@ -75,15 +75,16 @@ module _ (leaping : Bool) (t : Terms) (b : Buffers) where
       call-cases leaping t b (λ c. 1 ≤ c .number → c .number ≤ 7 → Refused c)
       (λ h p q. absurd (let z : ⊥ = omega arith in z))
       (λ h k low high e p q. absurd (let z : ⊥ = omega arith in z))
-      (λ h e p q. record { machine = refl; lent = refl; reply = _; number = refl; result = refl })
+      (λ h e p q. record { machine = refl; lent = refl; reply = told (unfitReply (b .lent .image)) none; number = refl; result = refl })
       (λ h m e p q.
       let u = refused-untouched t m (b .lent) p q in
+      let reply = answerOf t m (b .lent) .reply in
       record {
         machine = ap (λ (a : Answer). savedOf (a .machine)) (u .0) ∙ load-then-save (b .machine) m bytes e;
         lent = ap (λ (a : Answer). a .lent) (u .0);
-        reply = answerOf t m (b .lent) .reply;
+        reply = reply;
         number = refl;
-        result = told-zero _ (u .0) (u .1);
+        result = told-zero reply (u .0) (u .1);
       })
 
   -- the machine that a run leaves is loaded by the next call
@@ -111,6 +112,10 @@ Agree s t =
     × (s .left .lent ≡ t .left .lent)
     × (take 40 (s .left .result) ≡ take 40 (t .left .result))
 
+-- a refusal with its record, or a number alone
+abbrev refusedAs : Told → Bool → Buffers → Bool → ℕ → Called
+refusedAs u leaping b c k = cond c (reported leaping u noCounts 0 b) (called k b)
+
 -- both runs return the same number and leave the same image, machine and output, and the same first 40 bytes of the result
 pub runs-agree : (t : Terms) (b : Buffers) → 44 ≤ length (b .result) → Agree (singleCall t b) (leapingCall t b)
 unfolding runCall
@@ -119,10 +124,7 @@ runs-agree t b h =
     subst (λ (s : Called). Agree s (runCall true t b)) (sym (passes _ _ (le-ltb _ _ g)))
     (subst (Agree (onLoad false t b (loadOf (b .machine)))) (sym (passes _ _ (le-ltb _ _ h))) (alike (loadOf (b .machine))))
   where
-    abbrev refused : Bool → Bool → ℕ → Told → Called
-    refused leaping c k u = cond c (reported leaping u noCounts 0 b) (called k b)
-
-    both-refused : (c : Bool) (k : ℕ) (u : Told) → Agree (refused false c k u) (refused true c k u)
+    both-refused : (c : Bool) (k : ℕ) (u : Told) → Agree (refusedAs u false b c k) (refusedAs u true b c k)
     both-refused true k u = (refl, refl, refl, records-alike u noCounts 0 (b .result))
     both-refused false k u = (refl, refl, refl, refl)
 

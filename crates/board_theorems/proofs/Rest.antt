@@ -32,6 +32,10 @@ module _ (session : List ℕ) (used cycles : ℕ) (buffer result : List ℕ) whe
   abbrev answered : Option Told → Rest
   answered o = onRest (bufferBy o rest buffer) result (answerBy o rest)
 
+  -- the refusal of a sound session, where there is one
+  abbrev soundly : Option Told
+  soundly = cond (hasFewer session used) (some (told 30 none)) (cond (ltb (length buffer) (length rest)) (some (told 31 none)) none)
+
   -- each way that the call can end
   rest-cases : (P : Rest → Type 0)
       → P (rested 29 buffer result)
@@ -41,16 +45,10 @@ module _ (session : List ℕ) (used cycles : ℕ) (buffer result : List ℕ) whe
   unfolding restCall restBuffer restAnswer restRefusal
   rest-cases P short refused done = cases P (ltb (length result) 8) (λ _. short) (λ _. by (checkOf session))
     where
-      abbrev Q : Option Told → Type 0
-      Q o = P (answered o)
-
-      abbrev sound : Option Told
-      sound = cond (hasFewer session used) (some (told 30 none)) (cond (ltb (length buffer) (length rest)) (some (told 31 none)) none)
-
-      by : (c : Checked) → Q (firstOf (toldCheck c) sound)
+      by : (c : Checked) → P (answered (firstOf (toldCheck c) soundly))
       by Sound =
-          cases Q (hasFewer session used) (λ _. refused (told 30 none) (inr refl))
-          (λ _. cases Q (ltb (length buffer) (length rest)) (λ _. refused (told 31 none) (inr refl)) (λ _. done))
+          cases (λ (o : Option Told). P (answered o)) (hasFewer session used) (λ _. refused (told 30 none) (inr refl))
+          (λ _. cases (λ (o : Option Told). P (answered o)) (ltb (length buffer) (length rest)) (λ _. refused (told 31 none) (inr refl)) (λ _. done))
       by (Bad f) = refused (toldFault f) (inl (fault-most f))
 
   pub rest-kept : let c = restCall session used cycles buffer result in 1 ≤ c .number → c .rest ≡ buffer
