@@ -22,7 +22,7 @@ numbersOf a = record { cycles = a .cycles; instructions = a .instructions; entri
 
 -- "the reply, cycles, instructions, interrupt entries, records used and bytes sent in decimal, then registers in hexadecimal"
 unfoldable pub stopText : Answer → List ℕ
-stopText a = counted "stop " (a .reply .number) ++ countsText (numbersOf a) ++ registersText (a .machine .chip .cpu)
+stopText a = counted "stop " (a .reply .number) ++ countsText (numbersOf a) ++ registersText (a .machine .chip .registers)
 
 -- "Replies 1 to 3 and 10 print `refused K`; 4 to 7 print `refused K record R`"
 unfoldable pub textOf : Answer → List ℕ

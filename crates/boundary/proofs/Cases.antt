@@ -9,7 +9,7 @@ use lib.ListN.{length}
 use borrow.Author.Tests.{le-leb, lt-leb}
 use Rattle.turns.specs.Turn.{Turn, more, done}
 use Rattle.opcodes.specs.declared.Instruction.{Instruction}
-use Rattle.registers.specs.Cpu.{idles}
+use Rattle.registers.specs.Registers.{idles}
 use Rattle.bus.specs.Access.{Memories}
 use Rattle.session.proofs.Laws.{next-after}
 use Rattle.machine.specs.declared.Machine.{Machine}
@@ -82,11 +82,11 @@ module _ (s : State) (l : Lent) where
   act-enters e = ap (λ (p : Pending). onPending p (worldOf s l)) e
 
   module _ (e : pendingOf (s .machine) ≡ Nothing) where
-    pub act-waits : idles (s .machine .chip .cpu) ≡ true → actOf (worldOf s l) ≡ more (waitedWorld (worldOf s l))
+    pub act-waits : idles (s .machine .chip .registers) ≡ true → actOf (worldOf s l) ≡ more (waitedWorld (worldOf s l))
     unfolding actOf
     act-waits w = ap (λ (p : Pending). onPending p (worldOf s l)) e ∙ picks _ _ w
 
-    pub act-steps : idles (s .machine .chip .cpu) ≡ false
+    pub act-steps : idles (s .machine .chip .registers) ≡ false
         → actOf (worldOf s l) ≡ executedOf (lookOf (memoriesIn l) (s .machine)) (worldOf s l)
     unfolding actOf
     act-steps w = ap (λ (p : Pending). onPending p (worldOf s l)) e ∙ passes _ _ w

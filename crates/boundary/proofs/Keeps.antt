@@ -6,7 +6,7 @@ use mathlib.Core.Bool.{true, false}
 use lib.ListN.{length}
 use Rattle.turns.specs.Turn.{Turn, Then}
 use Rattle.opcodes.specs.declared.Instruction.{Instruction}
-use Rattle.registers.specs.Cpu.{idles}
+use Rattle.registers.specs.Registers.{idles}
 use Rattle.machine.specs.declared.Cause.{Cause}
 use Rattle.machine.specs.declared.Look.the-variants.{Runs}
 use Rattle.machine.specs.declared.Pending.the-variants.{Due}
@@ -25,8 +25,8 @@ pub record Keeps (t : Terms) (Q : World → Type 0) : Type 0 where
   pub sent : (w : World) → w .state .sent .0 < length (w .lent .output) → Q w → Q (sentWorld w)
   pub entered : (w : World) (cause : Cause) → pendingOf (w .state .machine) ≡ Due cause → w .state .cycles .0 < t .limit → Q w
       → Q (enteredWorld cause w)
-  pub waited : (w : World) → idles (w .state .machine .chip .cpu) ≡ true → w .state .cycles .0 < t .limit → Q w → Q (waitedWorld w)
-  pub stepped : (w : World) (i : Instruction) → idles (w .state .machine .chip .cpu) ≡ false
+  pub waited : (w : World) → idles (w .state .machine .chip .registers) ≡ true → w .state .cycles .0 < t .limit → Q w → Q (waitedWorld w)
+  pub stepped : (w : World) (i : Instruction) → idles (w .state .machine .chip .registers) ≡ false
       → lookOf (memoriesIn (w .lent)) (w .state .machine) ≡ Runs i → w .state .cycles .0 < t .limit → Q w
       → Q (steppedWorld (stepOf i (memoriesIn (w .lent)) (w .state .machine)) w)
 

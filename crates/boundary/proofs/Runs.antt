@@ -10,7 +10,7 @@ use borrow.Author.Tests.{leb-true, leb-false}
 use Rattle.turns.specs.Turn.{Turn, more, done, onTurn, Then}
 use Rattle.turns.proofs.Laws.{then-more, then-done, loop-more, loop-done, loop-unfolds, loop-leap, loop-keeps}
 use Rattle.opcodes.specs.declared.Instruction.{Instruction}
-use Rattle.registers.specs.Cpu.{idles}
+use Rattle.registers.specs.Registers.{idles}
 use Rattle.machine.specs.declared.Cause.{Cause}
 use Rattle.machine.specs.declared.Look.{Look}
 use Rattle.machine.specs.declared.Look.the-variants as looks
@@ -32,21 +32,21 @@ use Rattle.boundary.proofs.Cases.{records-fine, records-cycles}
 module _ (P : Turn World Ended → Type 0) where
   pub act-cases : (w : World)
       → ((cause : Cause) → pendingOf (w .state .machine) ≡ Due cause → P (more (enteredWorld cause w)))
-      → (pendingOf (w .state .machine) ≡ Nothing → idles (w .state .machine .chip .cpu) ≡ true → P (more (waitedWorld w)))
+      → (pendingOf (w .state .machine) ≡ Nothing → idles (w .state .machine .chip .registers) ≡ true → P (more (waitedWorld w)))
       → P (done (endedOf Undefined w))
-      → ((i : Instruction) → idles (w .state .machine .chip .cpu) ≡ false → lookOf (memoriesIn (w .lent)) (w .state .machine) ≡ looks.Runs i
+      → ((i : Instruction) → idles (w .state .machine .chip .registers) ≡ false → lookOf (memoriesIn (w .lent)) (w .state .machine) ≡ looks.Runs i
       → P (more (steppedWorld (stepOf i (memoriesIn (w .lent)) (w .state .machine)) w)))
       → P (actOf w)
   unfolding actOf
   act-cases w entry idle bad op = by (pendingOf (w .state .machine)) refl
     where
-      looked : idles (w .state .machine .chip .cpu) ≡ false → (k : Look) → lookOf (memoriesIn (w .lent)) (w .state .machine) ≡ k → P (executedOf k w)
+      looked : idles (w .state .machine .chip .registers) ≡ false → (k : Look) → lookOf (memoriesIn (w .lent)) (w .state .machine) ≡ k → P (executedOf k w)
       looked f looks.Undefined e = bad
       looked f (looks.Runs i) e = op i f e
 
       by : (p : Pending) → pendingOf (w .state .machine) ≡ p → P (onPending p w)
       by (Due cause) e = entry cause e
-      by Nothing e = cases P (idles (w .state .machine .chip .cpu)) (idle e) (λ f. looked f _ refl)
+      by Nothing e = cases P (idles (w .state .machine .chip .registers)) (idle e) (λ f. looked f _ refl)
 
   pub boundary-cases : (t : Terms) (w : World)
       → (t .limit ≤ w .state .cycles .0 → P (done (endedOf Limit w)))
@@ -66,7 +66,7 @@ module _ (P : Turn World Ended → Type 0) where
 -- an entry takes 4 cycles or 12
 pub entry-takes : (cause : Cause) (w : World) → 0 < enteredOf cause (memoriesIn (w .lent)) (w .state .machine) .cycles
 unfolding enteredOf
-entry-takes cause w = cases (λ (k : ℕ). 0 < k) (w .state .machine .chip .cpu .waiting) {x = 4} {y = 12} (λ _. omega arith) (λ _. omega arith)
+entry-takes cause w = cases (λ (k : ℕ). 0 < k) (w .state .machine .chip .registers .waiting) {x = 4} {y = 12} (λ _. omega arith) (λ _. omega arith)
 
 -- and an instruction 2 to 12
 pub step-takes : (i : Instruction) (w : World) → lookOf (memoriesIn (w .lent)) (w .state .machine) ≡ looks.Runs i

@@ -7,7 +7,7 @@ use lib.ListN.{length, set}
 use Rattle.turns.specs.Turn.{Turn, more, done, loopOf}
 use Rattle.session.specs.Session.{eventAt, nextAt, dueAt}
 use Rattle.serial.specs.Serial.{wantsToSend}
-use Rattle.registers.specs.Cpu.{idles}
+use Rattle.registers.specs.Registers.{idles}
 use Rattle.bus.specs.Access.{Memories}
 use Rattle.bus.specs.Units.{byteSent}
 use Rattle.machine.specs.declared.Cause.{Cause}
@@ -103,7 +103,7 @@ executedOf (looks.Runs i) w = more (steppedWorld (stepOf i (memoriesIn (w .lent)
 abbrev pub onPending : Pending → World → Turn World Ended
 onPending (Due cause) w = more (enteredWorld cause w)
 onPending Nothing w =
-    cond (idles (w .state .machine .chip .cpu))
+    cond (idles (w .state .machine .chip .registers))
     (more (waitedWorld w))
     (executedOf (lookOf (memoriesIn (w .lent)) (w .state .machine)) w)
 

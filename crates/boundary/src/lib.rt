@@ -195,7 +195,7 @@ impl State {
                 progress: Progress::Going,
             },
             Pending::Nothing => {
-                if self.machine.chip.cpu.idles() {
+                if self.machine.chip.registers.idles() {
                     return Turned {
                         state: self.wait(),
                         progress: Progress::Going,

@@ -3,7 +3,7 @@ use Prim.Native.Nat.{ℕ, _+_, _≤_}
 use native.Mathlib.Omega.{arith}
 use mathlib.Core.Path.{_≡_, refl, sym, _∙_}
 use mathlib.Core.Bool.{Bool, true, false, cond, false≢true}
-use Rattle.registers.specs.Cpu.{idles}
+use Rattle.registers.specs.Registers.{idles}
 use Rattle.machine.specs.declared.Machine.{Machine}
 use Rattle.boundary.specs.World.{Lent, Terms}
 use Rattle.boundary.specs.Boundary.{recordTaken, sentState, enteredWorld, waitedState}
@@ -13,7 +13,7 @@ use Rattle.boundary.proofs.Keeps.{Keeps, run-holds}
 
 -- right after a waiting cycle the machine idles, and one leap more may have begun than records, bytes and interrupts tell
 record Bounded (s : State) : Type 0 where
-  waits : s .inside ≡ true → idles (s .machine .chip .cpu) ≡ true
+  waits : s .inside ≡ true → idles (s .machine .chip .registers) ≡ true
   count : s .leaps .0 ≤ s .used .0 + s .sent .0 + s .entries .0 + cond (s .inside) 1 0
 
 most : (b : Bool) → cond b 1 0 ≤ 1

@@ -11,7 +11,7 @@ use Rattle.session.specs.declared.Event.the-variants.{Port1, Port2, Irq1, Nmi, 
 use Rattle.session.specs.Session.{eventAt}
 use Rattle.bus.specs.Access.{Memories, takes}
 use Rattle.bus.specs.Units.{passed}
-use Rattle.cpu.proofs.Trees.{run-r}
+use Rattle.chip.proofs.Trees.{run-r}
 use Rattle.machine.specs.declared.Machine.{Machine}
 use Rattle.machine.specs.declared.Cause.{Cause}
 use Rattle.machine.specs.Events.{appliedOf}

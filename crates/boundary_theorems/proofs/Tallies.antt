@@ -13,7 +13,7 @@ use Rattle.turns.proofs.Laws.{on-more, loop-more, loop-done}
 use Rattle.turns.proofs.Recorded.{total-last, rows-keep}
 use Rattle.session.specs.Session.{nextAt, dueAt}
 use Rattle.session.proofs.Laws.{next-after, due-there}
-use Rattle.registers.specs.Cpu.{idles}
+use Rattle.registers.specs.Registers.{idles}
 use Rattle.bus.specs.Access.{Memories}
 use Rattle.machine.specs.declared.Machine.{Machine}
 use Rattle.machine.specs.declared.Look.{Look}
@@ -133,7 +133,7 @@ module _ (s : State) (a b : ℕ) (w : World) (h : Adds (tally a b 0) s (w .state
 
       by : (p : Pending) → AddsThen s (tally a b (cyclesBy p (memoriesIn (w .lent)) (w .state .machine))) (onPending p w)
       by (Due cause) = record { cycles = takes _; used = h .used; sent = h .sent }
-      by Nothing = goes (idles (w .state .machine .chip .cpu))
+      by Nothing = goes (idles (w .state .machine .chip .registers))
 
 -- the counts of a state are the totals of the tallies
 pub record Told (ts : List Tally) (s : State) : Type 0 where

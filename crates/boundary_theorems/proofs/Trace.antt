@@ -8,7 +8,7 @@ use lib.Dec.{leb}
 use lib.ListN.{length}
 use Rattle.turns.specs.Turn.{Turn, more, done, Then}
 use Rattle.turns.proofs.Recorded.{total-last, rows-keep}
-use Rattle.registers.specs.Cpu.{idles}
+use Rattle.registers.specs.Registers.{idles}
 use Rattle.bus.specs.Access.{Memories}
 use Rattle.machine.specs.declared.Machine.{Machine}
 use Rattle.machine.specs.declared.Look.{Look}
@@ -90,9 +90,9 @@ module _ (ms : List Mark) (a b : Bool) (w : World) (h : Follows ms (not a && not
       goes true = counted waitingCycle _ (ap (λ (i : Bool). w .state .leaps .0 + cond i 0 1) (h .inside)) refl refl refl
       goes false = looked (lookOf (memoriesIn (w .lent)) (w .state .machine))
 
-      by : (p : Pending) → Marked ms (mark (stepBy p (idles (w .state .machine .chip .cpu)))) (onPending p w)
+      by : (p : Pending) → Marked ms (mark (stepBy p (idles (w .state .machine .chip .registers)))) (onPending p w)
       by (Due cause) = counted entry _ refl refl refl refl
-      by Nothing = goes (idles (w .state .machine .chip .cpu))
+      by Nothing = goes (idles (w .state .machine .chip .registers))
 
 -- step 2 keeps the counts, and tells by `inside` whether there was a record
 module _ (session : List ℕ) (w : World) where

@@ -15,8 +15,8 @@ use Rattle.serial.specs.Serial.{trcsOf, readSerial, writeSerial, idleLine, want
 use Rattle.bus.specs.declared.Bus.{Bus}
 use Rattle.bus.specs.Access.{memories, readOf, writeOf, storeOf}
 use Rattle.bus.specs.Units.{passed, resetBus}
-use Rattle.cpu.specs.Act.{run, read, write, _>>=_}
-use Rattle.cpu.specs.Instructions.{read2, operand, dyadic, sta, push, push2, stackAll, vectored, wai, enter, operate, execute}
+use Rattle.chip.specs.Act.{run, read, write, _>>=_}
+use Rattle.chip.specs.Instructions.{read2, operand, dyadic, sta, push, push2, stackAll, vectored, wai, enter, operate, execute}
 use Rattle.session.specs.Session.{lengthAt, kindAt, timeAt, payloadAt, nextAt, eventOf, dueAt}
 use Rattle.machine.specs.declared.Machine.{Machine}
 use Rattle.machine.specs.Machine.{onChip, resetAct, resetOf, cold}
@@ -57,12 +57,12 @@ irq1At time = 7 ∷ 0 ∷ 3 ∷ 0 ∷ time ∷ 0 ∷ 0 ∷ 0 ∷ 0 ∷ []
 abbrev told : Ended → List ℕ
 told e =
     let s = e .world .state in
-    stopNumber (e .stop) ∷ s .cycles .0 ∷ s .instructions .0 ∷ s .entries .0 ∷ s .used .0 ∷ s .sent .0 ∷ s .leaps .0 ∷ s .machine .chip .cpu .pc ∷ []
+    stopNumber (e .stop) ∷ s .cycles .0 ∷ s .instructions .0 ∷ s .entries .0 ∷ s .used .0 ∷ s .sent .0 ∷ s .leaps .0 ∷ s .machine .chip .registers .pc ∷ []
 
 -- and A, the codes and the byte at $80
 abbrev toldMore : Ended → List ℕ
 toldMore e =
-    told e ++ e .world .state .machine .chip .cpu .a ∷ codesByte (e .world .state .machine .chip .cpu .codes) ∷ getD (e .world .lent .image) 0x80 0 ∷ []
+    told e ++ e .world .state .machine .chip .registers .a ∷ codesByte (e .world .state .machine .chip .registers .codes) ∷ getD (e .world .lent .image) 0x80 0 ∷ []
 
 -- the run of a machine with a session, a limit, and the image and the output that it is lent
 abbrev ran : List ℕ → ℕ → Machine → List ℕ → List ℕ → Ended

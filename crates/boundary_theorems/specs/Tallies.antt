@@ -7,7 +7,7 @@ use lib.ListN.{length}
 use Rattle.turns.specs.Turn.{Turn, more, done, loopOf}
 use Rattle.turns.specs.Recorded.{rowsOf}
 use Rattle.session.specs.Session.{nextAt, dueAt}
-use Rattle.registers.specs.Cpu.{idles}
+use Rattle.registers.specs.Registers.{idles}
 use Rattle.bus.specs.Access.{Memories}
 use Rattle.machine.specs.declared.Machine.{Machine}
 use Rattle.machine.specs.declared.Look.{Look}
@@ -52,7 +52,7 @@ lookCycles (Runs i) = i .cycles
 
 abbrev pub cyclesBy : Pending → Memories → Machine → ℕ
 cyclesBy (Due cause) memory m = entryCycles m
-cyclesBy Nothing memory m = cond (idles (m .chip .cpu)) 1 (lookCycles (lookOf memory m))
+cyclesBy Nothing memory m = cond (idles (m .chip .registers)) 1 (lookCycles (lookOf memory m))
 
 abbrev pub cyclesAt : Memories → Machine → ℕ
 cyclesAt memory m = cyclesBy (pendingOf m) memory m

@@ -5,7 +5,7 @@ use mathlib.Core.Bool.{Bool, true, false, not, cond, _&&_}
 use mathlib.Core.List.{List, [], _∷_}
 use Rattle.turns.specs.Turn.{Turn, more, done}
 use Rattle.turns.specs.Recorded.{rowsOf, countOf}
-use Rattle.registers.specs.Cpu.{idles}
+use Rattle.registers.specs.Registers.{idles}
 use Rattle.machine.specs.declared.Machine.{Machine}
 use Rattle.machine.specs.declared.Pending.{Pending}
 use Rattle.machine.specs.declared.Pending.the-variants.{Nothing, Due}
@@ -24,7 +24,7 @@ stepBy (Due cause) idle = entry
 stepBy Nothing idle = cond idle waitingCycle instruction
 
 abbrev pub takenBy : Machine → Taken
-takenBy m = stepBy (pendingOf m) (idles (m .chip .cpu))
+takenBy m = stepBy (pendingOf m) (idles (m .chip .registers))
 
 -- what a boundary that goes on did: whether a record was applied there, whether a byte was sent there, and its step
 pub record Mark : Type 0 where

@@ -9,7 +9,7 @@ use lib.Dec.{leb, eqb}
 use lib.ListN.{length}
 use borrow.Author.Tests.{leb-true, leb-false, eqb-true}
 use Rattle.turns.specs.Turn.{Turn, Then}
-use Rattle.registers.specs.Cpu.{idles}
+use Rattle.registers.specs.Registers.{idles}
 use Rattle.serial.specs.Serial.{wantsToSend, sentOf}
 use Rattle.machine.specs.declared.Machine.{Machine}
 use Rattle.machine.specs.declared.Pending.{Pending}
@@ -36,7 +36,7 @@ Shows n Undefined a =
     (a .cycles < n)
     × (wantsToSend (a .machine .chip .bus .serial) ≡ false)
     × (pendingOf (a .machine) ≡ Nothing)
-    × (idles (a .machine .chip .cpu) ≡ false)
+    × (idles (a .machine .chip .registers) ≡ false)
     × (lookOf (memoriesIn (a .lent)) (a .machine) ≡ look.Undefined)
 Shows n Full a = (a .cycles < n) × (wantsToSend (a .machine .chip .bus .serial) ≡ true) × (length (a .lent .output) ≤ a .sent)
 
@@ -74,10 +74,10 @@ module _ (asked : Terms) where
       by : (p : Pending) → pendingOf (w .state .machine) ≡ p → EndsThen (onPending p w)
       by (Due cause) e = tt
       by Nothing e =
-          cases EndsThen (idles (w .state .machine .chip .cpu)) (λ _. tt)
+          cases EndsThen (idles (w .state .machine .chip .registers)) (λ _. tt)
           (λ f. looked f (lookOf (memoriesIn (w .lent)) (w .state .machine)) refl)
         where
-          looked : idles (w .state .machine .chip .cpu) ≡ false
+          looked : idles (w .state .machine .chip .registers) ≡ false
               → (k : Look) → lookOf (memoriesIn (w .lent)) (w .state .machine) ≡ k → EndsThen (executedOf k w)
           looked f look.Undefined g = (l, s, e, f, g)
           looked f (look.Runs i) g = tt

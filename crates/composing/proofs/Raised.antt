@@ -16,7 +16,7 @@ use Rattle.laws.proofs.Lists.{set-append-add}
 use Rattle.laws.proofs.Orders.{leb-shifted}
 use Rattle.bus.specs.Access.{Memories}
 use Rattle.bus.specs.Units.{byteSent}
-use Rattle.registers.specs.Cpu.{idles}
+use Rattle.registers.specs.Registers.{idles}
 use Rattle.machine.specs.declared.Machine.{Machine}
 use Rattle.machine.specs.declared.Cause.{Cause}
 use Rattle.machine.specs.declared.Look.{Look}
@@ -218,7 +218,7 @@ module _ (s r : List ℕ) (d : Past) (before : ℕ) where
           let e = enteredOf cause memory m in
           grows v (e .machine) (e .cycles) 0 1 0 0 leaps inside false (e .memory) (apart-still a) k
       by Nothing =
-          both-cond Goes (idles (m .chip .cpu)) (idles (m .chip .cpu)) refl
+          both-cond Goes (idles (m .chip .registers)) (idles (m .chip .registers)) refl
           (λ _. grows v (passedOf 1 m) 1 0 0 (cond inside 0 1) (cond (v .state .inside) 0 1) leaps inside true memory
           (apart-waits before leaps inside (v .state .leaps .0) (v .state .inside) a) k)
           (λ _. looked (lookOf memory m))

@@ -4,12 +4,12 @@ use arithmetic::Codes;
 use bits::Flag;
 use bus::Bus;
 use bus::peek;
-use cpu::Chip;
+use chip::Chip;
 use machine::Look;
 use machine::Machine;
 use ports::Port;
 use ports::Ports;
-use registers::Cpu;
+use registers::Registers;
 use serial::Serial;
 use timer::Timer;
 ghost use Prim.Native.Nat.{_<_, _≤_};
@@ -87,8 +87,8 @@ fn start_serial() -> Serial {
     }
 }
 
-fn start_cpu() -> Cpu {
-    Cpu {
+fn start_registers() -> Registers {
+    Registers {
         a: 0xB6,
         b: 0x5D,
         x: 0x0200,
@@ -109,7 +109,7 @@ fn start(r: u32) -> Machine {
         r: r,
     };
     let chip = Chip {
-        cpu: start_cpu(),
+        registers: start_registers(),
         bus: bus,
     };
     Machine {
@@ -213,7 +213,7 @@ fn show_bit(name: &[u8], before: bool, after: bool) {
     show(name, before as u16, after as u16, 1);
 }
 
-fn show_cpu(was: Cpu, is: Cpu) {
+fn show_registers(was: Registers, is: Registers) {
     show_word(b"pc", was.pc, is.pc);
     show_byte(b"a", was.a, is.a);
     show_byte(b"b", was.b, is.b);
@@ -258,7 +258,7 @@ fn show_serial(was: Serial, is: Serial) {
 fn show_machine(was: Machine, is: Machine) {
     let before = was.chip.bus;
     let after = is.chip.bus;
-    show_cpu(was.chip.cpu, is.chip.cpu);
+    show_registers(was.chip.registers, is.chip.registers);
     show_ports(before.ports, after.ports);
     show_timer(before.timer, after.timer);
     show_serial(before.serial, after.serial);

@@ -4,7 +4,7 @@ use native.Mathlib.Omega.{arith}
 use mathlib.Core.List.{List}
 use mathlib.Core.Option.{Option, none, some}
 use Rattle.arithmetic.specs.Codes.{codesByte}
-use Rattle.registers.specs.declared.Cpu.{Cpu}
+use Rattle.registers.specs.declared.Registers.{Registers}
 use Rattle.printing.specs.Printing.{ascii}
 use Rattle.printing.proofs.Shown.{Short, _then_, short, decimal-short, hexadecimal-short}
 use Rattle.lines.specs.declared.Numbers.{Numbers}
@@ -22,7 +22,7 @@ counts-short n =
     then (short (ascii " used ") then decimal-short (n .used))
     then (short (ascii " sent ") then decimal-short (n .sent))
 
-pub registers-short : (c : Cpu) → Short 39 (registersText c)
+pub registers-short : (c : Registers) → Short 39 (registersText c)
 unfolding registersText
 registers-short c =
     (short (ascii " pc ") then hexadecimal-short 4 (c .pc))

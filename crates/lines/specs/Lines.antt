@@ -4,7 +4,7 @@ use Prim.Native.String.{String}
 use mathlib.Core.List.{List, _++_}
 use mathlib.Core.Option.{Option, none, some}
 use Rattle.arithmetic.specs.Codes.{codesByte}
-use Rattle.registers.specs.declared.Cpu.{Cpu}
+use Rattle.registers.specs.declared.Registers.{Registers}
 use Rattle.printing.specs.Printing.{ascii, decimalOf, hexadecimalOf}
 use Rattle.replies.specs.Replies.{Told}
 use Rattle.lines.specs.declared.Numbers.{Numbers}
@@ -25,7 +25,7 @@ countsText n =
     ++ counted " used " (n .used)
     ++ counted " sent " (n .sent)
 
-unfoldable pub registersText : Cpu → List ℕ
+unfoldable pub registersText : Registers → List ℕ
 registersText c =
     coded " pc " 4 (c .pc)
     ++ coded " a " 2 (c .a)

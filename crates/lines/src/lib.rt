@@ -1,6 +1,6 @@
 // The words that the programs' lines share: counts, registers and refusals.
 use printing::Line;
-use registers::Cpu;
+use registers::Registers;
 use replies::Reply;
 ghost use mathlib.Core.Path.{_≡_};
 ghost use mathlib.Core.List.{_++_};
@@ -51,7 +51,7 @@ pub fn counts(line: Line, n: Numbers) -> Line
 }
 
 // The registers, in hexadecimal.
-pub fn registers(line: Line, c: Cpu) -> Line
+pub fn registers(line: Line, c: Registers) -> Line
     ensures { λ r. ⌜ r ≡ putsOf line (registersText c) ⌝ }
 {
     let pc = with_word(line, b" pc ", c.pc);

@@ -10,7 +10,7 @@ use Rattle.bits.specs.Words.{paired}
 use Rattle.opcodes.specs.Opcodes.{decodeOf}
 use Rattle.arithmetic.specs.Codes.{codesByte, codesOf}
 use Rattle.arithmetic.specs.Results.{movedOf, sub16Of, monadicOf, daaOf, mulOf}
-use Rattle.registers.specs.declared.Cpu.{Cpu}
+use Rattle.registers.specs.declared.Registers.{Registers}
 use Rattle.ports.specs.Ports.{readPort, readPorts, resetPorts}
 use Rattle.timer.specs.Fields.{withCounter, withCompare}
 use Rattle.timer.specs.Timer.{tcsrOf, readTimer, writeTimer, ticks, resetTimer}
@@ -18,8 +18,8 @@ use Rattle.serial.specs.Serial.{trcsOf, writeSerial, receivedByte, ticksSerial,
 use Rattle.bus.specs.declared.Bus.{Bus}
 use Rattle.bus.specs.Access.{Memories, memories, withTimer, readOf, writeOf, storeOf}
 use Rattle.bus.specs.Units.{passed, resetBus}
-use Rattle.cpu.specs.Act.{run, read, write, _>>=_}
-use Rattle.cpu.specs.Instructions.{read2, operand, monadic, sta, wide, push, push2, stackAll, vectored, enter, operate, execute}
+use Rattle.chip.specs.Act.{run, read, write, _>>=_}
+use Rattle.chip.specs.Instructions.{read2, operand, monadic, sta, wide, push, push2, stackAll, vectored, enter, operate, execute}
 use Rattle.session.specs.declared.Event.the-variants.{Received}
 use Rattle.machine.specs.declared.Machine.{Machine}
 use Rattle.machine.specs.declared.Cause.the-variants.{Irq1}
@@ -47,17 +47,17 @@ stepped f a b x code =
     told f (lookOf memory m) memory m
 
 -- what a step leaves
-abbrev cpu : Stepped → Cpu
-cpu s = s .machine .chip .cpu
+abbrev registers : Stepped → Registers
+registers s = s .machine .chip .registers
 
 abbrev codes : Stepped → ℕ
-codes s = codesByte (cpu s .codes)
+codes s = codesByte (registers s .codes)
 
 abbrev accumulatorA : Stepped → ℕ
-accumulatorA s = cpu s .a
+accumulatorA s = registers s .a
 
 abbrev double : Stepped → ℕ
-double s = paired (cpu s .a) (cpu s .b)
+double s = paired (registers s .a) (registers s .b)
 
 -- counter and TCSR after k cycles of a counter and a compare register
 abbrev counted : ℕ → ℕ → ℕ → List ℕ
@@ -79,7 +79,7 @@ entered waiting =
     let s =
     enteredOf Irq1 (memories (from (λ (at : ℕ). 0) 0 0x88))
     (onChip start (record { a = 0x0A; b = 0x0B; x = 0x1234; sp = 0x87; pc = 0x5678; codes = codesOf 0xC5; waiting = waiting }) (start .chip .bus)) in
-    s .cycles ∷ cpu s .pc ∷ cpu s .sp ∷ codes s ∷ drop 0x81 (s .memory .image)
+    s .cycles ∷ registers s .pc ∷ registers s .sp ∷ codes s ∷ drop 0x81 (s .memory .image)
 
 -- an example, and what it is to be
 infix 10 _is_
@@ -106,8 +106,8 @@ table =
     ∷ (stepped (two accumulatorA) 0x00 0 0 (0x40 ∷ []) is 0x00 ∷ 0xC4 ∷ [])  -- NEGA 00, C 0
     ∷ (stepped (two accumulatorA) 0x7F 0 0 (0x4C ∷ []) is 0x80 ∷ 0xCA ∷ [])  -- INCA 7F gives 80, V 1
     ∷ (stepped (one codes) 0 0 0x8000 (0x8C ∷ 0x00 ∷ 0x01 ∷ []) is 0xC2 ∷ [])  -- CPX 8000 against 0001: V 1, C 0, N 0
-    ∷ (stepped (one (λ s. cpu s .x)) 0 0x20 0xFFF0 (0x3A ∷ []) is 0x0010 ∷ [])  -- ABX FFF0 with B 20 gives 0010
-    ∷ (stepped (one (λ s. cpu s .sp)) 0 0 0 (0x35 ∷ []) is 0xFFFF ∷ [])  -- TXS with X 0 gives FFFF
+    ∷ (stepped (one (λ s. registers s .x)) 0 0x20 0xFFF0 (0x3A ∷ []) is 0x0010 ∷ [])  -- ABX FFF0 with B 20 gives 0010
+    ∷ (stepped (one (λ s. registers s .sp)) 0 0 0 (0x35 ∷ []) is 0xFFFF ∷ [])  -- TXS with X 0 gives FFFF
     ∷ (counted 0xFFFC 0 3 is 0xFFFF ∷ 0x20 ∷ [])  -- Counter FFFC after 3 cycles sets TOF
     ∷ (counted 0xFFFF 0x0100 3 is 0x0002 ∷ 0x00 ∷ [])  -- FFFF after 3 cycles is 0002, TOF not set
     ∷ (counted 0x0010 0x0010 2 is 0x0012 ∷ 0x00 ∷ [])  -- Counter and compare both 0010, 2 cycles: no OCF

@@ -15,11 +15,11 @@ use Rattle.machine.specs.declared.Pending.the-variants.{Nothing, Due}
 -- ORFE, or TIE with TDRE)"
 abbrev pub holds : Cause → Machine → Bool
 holds Nmi m = m .nmi
-holds Irq1 m = not (m .chip .cpu .codes .i) && not (m .irq1)
-holds Icf m = not (m .chip .cpu .codes .i) && (m .chip .bus .timer .icf .set && m .chip .bus .timer .eici)
-holds Ocf m = not (m .chip .cpu .codes .i) && (m .chip .bus .timer .ocf .set && m .chip .bus .timer .eoci)
-holds Tof m = not (m .chip .cpu .codes .i) && (m .chip .bus .timer .tof .set && m .chip .bus .timer .etoi)
-holds Serial m = not (m .chip .cpu .codes .i) && serialRequest (m .chip .bus .serial)
+holds Irq1 m = not (m .chip .registers .codes .i) && not (m .irq1)
+holds Icf m = not (m .chip .registers .codes .i) && (m .chip .bus .timer .icf .set && m .chip .bus .timer .eici)
+holds Ocf m = not (m .chip .registers .codes .i) && (m .chip .bus .timer .ocf .set && m .chip .bus .timer .eoci)
+holds Tof m = not (m .chip .registers .codes .i) && (m .chip .bus .timer .tof .set && m .chip .bus .timer .etoi)
+holds Serial m = not (m .chip .registers .codes .i) && serialRequest (m .chip .bus .serial)
 
 abbrev pub causes : List Cause
 causes = Nmi ∷ Irq1 ∷ Icf ∷ Ocf ∷ Tof ∷ Serial ∷ []

@@ -15,16 +15,16 @@ use Rattle.serial.specs.Serial.{resetSerial}
 use Rattle.bus.specs.declared.Bus.{Bus}
 use Rattle.bus.specs.Access.{Memories, memories}
 use Rattle.bus.specs.Units.{passed, resetBus, busRanges}
-use Rattle.registers.specs.declared.Cpu.{Cpu}
-use Rattle.cpu.specs.declared.Chip.{Chip}
-use Rattle.cpu.specs.Act.{Act, Act.done, Out, run, _>>=_}
-use Rattle.cpu.specs.Instructions.{read2}
+use Rattle.registers.specs.declared.Registers.{Registers}
+use Rattle.chip.specs.declared.Chip.{Chip}
+use Rattle.chip.specs.Act.{Act, Act.done, Out, run, _>>=_}
+use Rattle.chip.specs.Instructions.{read2}
 use Rattle.machine.specs.declared.Machine.{Machine}
 use Rattle.machine.specs.declared.Power.{Power}
 use Rattle.machine.specs.declared.Power.the-variants.{On, WrongImage, WrongStart}
 
-abbrev pub onChip : Machine → Cpu → Bus → Machine
-onChip m c b = record { chip = record { cpu = c; bus = b }; irq1 = m .irq1; nmi = m .nmi }
+abbrev pub onChip : Machine → Registers → Bus → Machine
+onChip m c b = record { chip = record { registers = c; bus = b }; irq1 = m .irq1; nmi = m .nmi }
 
 -- a flag is not armed unless set
 abbrev pub Settled : Flag → Type 0
@@ -52,11 +52,11 @@ rangesOf m = busRanges (m .chip .bus)
 
 -- k cycles pass
 abbrev pub passedOf : ℕ → Machine → Machine
-passedOf k m = onChip m (m .chip .cpu) (passed k (m .chip .bus))
+passedOf k m = onChip m (m .chip .registers) (passed k (m .chip .bus))
 
 -- "A, B, X, SP .. waiting .. all 0; condition codes $D0"
-abbrev pub resetCpu : ℕ → Cpu
-resetCpu pc = record {
+abbrev pub resetRegisters : ℕ → Registers
+resetRegisters pc = record {
   a = 0;
   b = 0;
   x = 0;
@@ -67,13 +67,13 @@ resetCpu pc = record {
 }
 
 -- "PC from $FFFE"
-unfoldable pub resetAct : Act Cpu
+unfoldable pub resetAct : Act Registers
 resetAct = do
   w ← read2 (vectorOf Reset)
-  done (resetCpu w)
+  done (resetRegisters w)
 
-abbrev pub resetTo : Machine → Out Cpu → Machine
-resetTo m o = record { chip = record { cpu = o .value; bus = o .bus }; irq1 = m .irq1; nmi = false }
+abbrev pub resetTo : Machine → Out Registers → Machine
+resetTo m o = record { chip = record { registers = o .value; bus = o .bus }; irq1 = m .irq1; nmi = false }
 
 -- reset: "pending NMI .. 0"; pins, IRQ1's level, R and memory are kept, and no cycles pass
 unfoldable pub resetOf : Memories → Machine → Machine
@@ -86,7 +86,7 @@ coldPorts = record { port1 = record { direction = 0; latch = 0; pins = 0xFF }; p
 abbrev pub cold : ℕ → Machine
 cold r = record {
   chip = record {
-    cpu = resetCpu 0;
+    registers = resetRegisters 0;
     bus = record { ports = coldPorts; timer = resetTimer; serial = resetSerial; rame = true; standby = false; r = r };
   };
   irq1 = true;

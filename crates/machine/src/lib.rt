@@ -1,12 +1,12 @@
 // The machine: the chip with its lines, its ranges, reset and power-on, interrupts, events and one step.
 use bus::Bus;
 use counts::Cycles;
-use cpu::Chip;
+use chip::Chip;
 use opcodes::Decoded;
 use opcodes::Instruction;
 use ports::Port;
 use ports::Ports;
-use registers::Cpu;
+use registers::Registers;
 use serial::Serial;
 use session::Event;
 use tables::Vector;
@@ -15,7 +15,7 @@ ghost use mathlib.Core.Path.{_≡_};
 ghost use Prim.Native.Nat.{ℕ};
 ghost use Rattle.bus.specs.Access.{memories, readOf};
 ghost use Rattle.bus.specs.Units.{byteSent};
-ghost use Rattle.machine.specs.Machine.{rangesOf, passedOf, resetCpu, resetOf, cold, powerOnOf};
+ghost use Rattle.machine.specs.Machine.{rangesOf, passedOf, resetRegisters, resetOf, cold, powerOnOf};
 ghost use Rattle.machine.specs.Interrupts.{pendingOf, vectorFor, nmiAfter};
 ghost use Rattle.machine.specs.Events.{appliedOf, onBus};
 ghost use Rattle.machine.specs.Steps.{moved, entryCycles, enteredOf, lookOf, stepOf};
@@ -61,8 +61,8 @@ pub struct Moved {
     pub cycles: Cycles,
 }
 
-fn reset_cpu(pc: u16) -> Cpu
-    ensures { λ r. ⌜ r ≡ resetCpu pc ⌝ }
+fn reset_registers(pc: u16) -> Registers
+    ensures { λ r. ⌜ r ≡ resetRegisters pc ⌝ }
 {
     let codes = arithmetic::Codes {
         h: false,
@@ -72,7 +72,7 @@ fn reset_cpu(pc: u16) -> Cpu
         v: false,
         c: false,
     };
-    Cpu {
+    Registers {
         a: 0,
         b: 0,
         x: 0,
@@ -108,8 +108,8 @@ fn cold_machine(r: u32) -> Machine
         standby: false,
         r: r,
     };
-    let cpu = reset_cpu(0);
-    let chip = Chip { cpu: cpu, bus: bus };
+    let registers = reset_registers(0);
+    let chip = Chip { registers: registers, bus: bus };
     Machine {
         chip: chip,
         irq1: true,
@@ -189,14 +189,14 @@ impl Machine {
     pub fn reset(self, image: &[u8]) -> Machine
         ensures { λ r. ⌜ r ≡ resetOf (memories (now (image .entry))) self ⌝ }
     {
-        let w = cpu::read_word(
+        let w = chip::read_word(
             self.chip.bus.reset(),
             image,
             tables::address_of(Vector::Reset),
         );
         let bus = w.next;
-        let cpu = reset_cpu(w.value);
-        let chip = Chip { cpu: cpu, bus: bus };
+        let registers = reset_registers(w.value);
+        let chip = Chip { registers: registers, bus: bus };
         Machine {
             chip: chip,
             irq1: self.irq1,
@@ -212,7 +212,7 @@ impl Machine {
         if self.nmi {
             return Pending::Due(Cause::Nmi);
         }
-        if self.chip.cpu.codes.i {
+        if self.chip.registers.codes.i {
             return Pending::Nothing;
         }
         if !self.irq1 {
@@ -257,7 +257,7 @@ impl Machine {
     fn entry_cycles(self) -> Cycles
         ensures { λ r. ⌜ r .0 ≡ entryCycles self ⌝ }
     {
-        if self.chip.cpu.waiting {
+        if self.chip.registers.waiting {
             Cycles(4)
         } else {
             Cycles(12)
@@ -281,9 +281,9 @@ impl Machine {
 
     // The byte that the opcode's fetch is to read.
     fn opcode(self, image: &[u8]) -> u8
-        ensures { λ r. ⌜ r ≡ readOf (memories (now (image .entry))) (self .chip .cpu .pc) (self .chip .bus) .value ⌝ }
+        ensures { λ r. ⌜ r ≡ readOf (memories (now (image .entry))) (self .chip .registers .pc) (self .chip .bus) .value ⌝ }
     {
-        let pc = self.chip.cpu.pc;
+        let pc = self.chip.registers.pc;
         if pc < 32 {
             let f = self.chip.bus.read(image, pc);
             return f.value;

@@ -3,7 +3,7 @@ use Prim.Native.Nat.{ℕ}
 use mathlib.Core.Bool.{cond}
 use mathlib.Core.List.{List, _++_}
 use Rattle.printing.specs.Printing.{ascii}
-use Rattle.registers.specs.declared.Cpu.{Cpu}
+use Rattle.registers.specs.declared.Registers.{Registers}
 use Rattle.replies.specs.Replies.{Told, stops}
 use Rattle.lines.specs.declared.Numbers.{Numbers}
 use Rattle.lines.specs.Lines.{counted, countsText, registersText, refusal}
@@ -17,9 +17,9 @@ unfoldable pub sliceText : ℕ → ℕ → Numbers → ℕ → List ℕ
 sliceText number stop n leaps = counted "slice " number ++ counted " stop " stop ++ leaptText n leaps ++ ascii "\n"
 
 -- "a summary line"
-unfoldable pub stoppedText : ℕ → ℕ → Numbers → ℕ → Cpu → List ℕ
+unfoldable pub stoppedText : ℕ → ℕ → Numbers → ℕ → Registers → List ℕ
 stoppedText stop slices n leaps c = counted "night stop " stop ++ counted " slices " slices ++ leaptText n leaps ++ registersText c
 
 -- the summary where the night stopped, and else the refusal as the bench program prints it
-unfoldable pub endText : Told → ℕ → Numbers → ℕ → Cpu → List ℕ
+unfoldable pub endText : Told → ℕ → Numbers → ℕ → Registers → List ℕ
 endText t slices n leaps c = cond (stops (t .number)) (stoppedText (t .number) slices n leaps c) (refusal t)

@@ -2,7 +2,7 @@
 use lines::Numbers;
 use lines::numbered;
 use printing::Line;
-use registers::Cpu;
+use registers::Registers;
 use replies::Reply;
 ghost use mathlib.Core.Path.{_≡_};
 ghost use Rattle.printing.specs.Printing.{emptyLine, putsOf};
@@ -25,7 +25,7 @@ pub fn slice_line(number: u64, stop: u8, n: Numbers, leaps: u64) -> Line
     leapt(stopped, n, leaps).text(b"\n")
 }
 
-fn stopped(stop: u8, slices: u64, n: Numbers, leaps: u64, c: Cpu) -> Line
+fn stopped(stop: u8, slices: u64, n: Numbers, leaps: u64, c: Registers) -> Line
     ensures { λ r. ⌜ r ≡ putsOf emptyLine (stoppedText stop slices n leaps c) ⌝ }
 {
     let stopped = numbered(Line::empty(), b"night stop ", stop as u64);
@@ -34,7 +34,7 @@ fn stopped(stop: u8, slices: u64, n: Numbers, leaps: u64, c: Cpu) -> Line
 }
 
 // What a night whose last slice ended with this reply tells.
-pub fn end_line(reply: Reply, slices: u64, n: Numbers, leaps: u64, c: Cpu) -> Line
+pub fn end_line(reply: Reply, slices: u64, n: Numbers, leaps: u64, c: Registers) -> Line
     ensures { λ r. ⌜ r ≡ putsOf emptyLine (endText (toldReply reply) slices n leaps c) ⌝ }
 {
     if reply.is_stop() {

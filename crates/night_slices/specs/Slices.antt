@@ -130,7 +130,7 @@ unfoldable pub nightText : Standing → List ℕ
 nightText s =
     endText (s .told) (s .slices)
     (record { cycles = s .cycles; instructions = s .instructions; entries = s .entries; used = s .used; sent = s .sent })
-    (s .leaps) (s .machine .chip .cpu)
+    (s .leaps) (s .machine .chip .registers)
     ++ ascii "\n"
 
 -- the code's results, in these words: the session is the first so many bytes of its buffer

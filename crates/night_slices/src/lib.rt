@@ -6,7 +6,7 @@ use counts::Records;
 use lines::Numbers;
 use machine::Machine;
 use printing::Line;
-use registers::Cpu;
+use registers::Registers;
 use replies::Reply;
 use rest::Rested;
 use std::num::wrapping_add_u64;
@@ -179,7 +179,7 @@ fn at_limit(ended: Ended) -> bool
 }
 
 // What a night that ended so tells.
-fn closing(ended: Ended, slices: u64, n: Numbers, leaps: u64, c: Cpu) -> Line
+fn closing(ended: Ended, slices: u64, n: Numbers, leaps: u64, c: Registers) -> Line
     ensures { λ r. ⌜ r ≡ putsOf emptyLine (endText (toldEnded ended) slices n leaps c) ⌝ }
 {
     match ended {
@@ -263,7 +263,7 @@ impl Night {
             sent: self.sent as u64,
         };
         let ended = self.ended;
-        closing(ended, self.slices.0, n, self.leaps.0, self.machine.chip.cpu).text(b"\n")
+        closing(ended, self.slices.0, n, self.leaps.0, self.machine.chip.registers).text(b"\n")
     }
 }
 

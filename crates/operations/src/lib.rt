@@ -11,7 +11,7 @@ use opcodes::Operation;
 use opcodes::Place;
 use opcodes::Wide;
 use opcodes::WideStore;
-use registers::Cpu;
+use registers::Registers;
 ghost use mathlib.Core.Path.{_≡_};
 ghost use Rattle.operations.specs.Shapes.{targetOf, monadicShape, tstShape, shapeOf};
 ghost use Rattle.operations.specs.Operations.{branch, quietOf, loadAt, loadedOf, loadWordAt, loadedWordOf};
@@ -132,7 +132,7 @@ pub fn shape_of(operation: Operation, place: Place) -> Shape
     }
 }
 
-fn branch(test: Branch, at: u16, c: Cpu) -> Cpu
+fn branch(test: Branch, at: u16, c: Registers) -> Registers
     ensures { λ r. ⌜ r ≡ branch test at c ⌝ }
 {
     if arithmetic::taken(test, c.codes) {
@@ -143,7 +143,7 @@ fn branch(test: Branch, at: u16, c: Cpu) -> Cpu
 }
 
 impl Quiet {
-    pub fn done(self, at: u16, c: Cpu) -> Cpu
+    pub fn done(self, at: u16, c: Registers) -> Registers
         ensures { λ r. ⌜ r ≡ quietOf self at c ⌝ }
     {
         match self {
@@ -158,7 +158,7 @@ impl Quiet {
 
 impl Loading {
     // Where the byte is: a pull's is above SP.
-    pub fn address(self, at: u16, c: Cpu) -> u16
+    pub fn address(self, at: u16, c: Registers) -> u16
         ensures { λ r. ⌜ r ≡ loadAt self at c ⌝ }
     {
         match self {
@@ -168,7 +168,7 @@ impl Loading {
         }
     }
 
-    pub fn loaded(self, v: u8, c: Cpu) -> Cpu
+    pub fn loaded(self, v: u8, c: Registers) -> Registers
         ensures { λ r. ⌜ r ≡ loadedOf self v c ⌝ }
     {
         match self {
@@ -183,7 +183,7 @@ impl Loading {
 }
 
 impl LoadingWord {
-    pub fn address(self, at: u16, c: Cpu) -> u16
+    pub fn address(self, at: u16, c: Registers) -> u16
         ensures { λ r. ⌜ r ≡ loadWordAt self at c ⌝ }
     {
         match self {
@@ -193,7 +193,7 @@ impl LoadingWord {
         }
     }
 
-    pub fn loaded(self, w: u16, c: Cpu) -> Cpu
+    pub fn loaded(self, w: u16, c: Registers) -> Registers
         ensures { λ r. ⌜ r ≡ loadedWordOf self w c ⌝ }
     {
         match self {
@@ -206,7 +206,7 @@ impl LoadingWord {
 
 impl Storing {
     // Where the byte goes: a push's goes to SP.
-    pub fn address(self, at: u16, c: Cpu) -> u16
+    pub fn address(self, at: u16, c: Registers) -> u16
         ensures { λ r. ⌜ r ≡ storeAt self at c ⌝ }
     {
         match self {
@@ -215,7 +215,7 @@ impl Storing {
         }
     }
 
-    pub fn byte(self, c: Cpu) -> u8
+    pub fn byte(self, c: Registers) -> u8
         ensures { λ r. ⌜ r ≡ byteOf self c ⌝ }
     {
         match self {
@@ -224,7 +224,7 @@ impl Storing {
         }
     }
 
-    pub fn stored(self, c: Cpu) -> Cpu
+    pub fn stored(self, c: Registers) -> Registers
         ensures { λ r. ⌜ r ≡ storedThen self c ⌝ }
     {
         match self {
@@ -234,14 +234,14 @@ impl Storing {
     }
 }
 
-pub fn stored_word(op: WideStore, c: Cpu) -> Cpu
+pub fn stored_word(op: WideStore, c: Registers) -> Registers
     ensures { λ r. ⌜ r ≡ storedWordThen op c ⌝ }
 {
     c.with_codes(arithmetic::moved16(c.stored(op), c.codes))
 }
 
 impl Pushing {
-    pub fn word(self, c: Cpu) -> u16
+    pub fn word(self, c: Registers) -> u16
         ensures { λ r. ⌜ r ≡ wordOf self c ⌝ }
     {
         match self {
@@ -251,7 +251,7 @@ impl Pushing {
     }
 
     // With SP below the word.
-    pub fn pushed(self, at: u16, c: Cpu) -> Cpu
+    pub fn pushed(self, at: u16, c: Registers) -> Registers
         ensures { λ r. ⌜ r ≡ pushedThen self at c ⌝ }
     {
         match self {

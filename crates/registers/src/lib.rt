@@ -13,10 +13,10 @@ use opcodes::Wide;
 use opcodes::WideStore;
 ghost use mathlib.Core.Path.{_≡_};
 ghost use Rattle.arithmetic.specs.Results.{indexedOf};
-ghost use Rattle.registers.specs.Cpu.{withA, withB, withX, withSp, withPc, withCodes, withWaiting, idles, d, withD};
-ghost use Rattle.registers.specs.Cpu.{accumulator, withAccumulator, resultIn, resultInD, withV, withC, withI, internalOf, wideOf, storedOf, offset};
+ghost use Rattle.registers.specs.Registers.{withA, withB, withX, withSp, withPc, withCodes, withWaiting, idles, d, withD};
+ghost use Rattle.registers.specs.Registers.{accumulator, withAccumulator, resultIn, resultInD, withV, withC, withI, internalOf, wideOf, storedOf, offset};
 
-pub struct Cpu {
+pub struct Registers {
     pub a: u8,
     pub b: u8,
     pub x: u16,
@@ -54,50 +54,50 @@ pub fn with_i(mut k: Codes, b: bool) -> Codes
     k
 }
 
-impl Cpu {
-    pub fn with_a(mut self, v: u8) -> Cpu
+impl Registers {
+    pub fn with_a(mut self, v: u8) -> Registers
         ensures { λ r. ⌜ r ≡ withA self v ⌝ }
     {
         self.a = v;
         self
     }
 
-    pub fn with_b(mut self, v: u8) -> Cpu
+    pub fn with_b(mut self, v: u8) -> Registers
         ensures { λ r. ⌜ r ≡ withB self v ⌝ }
     {
         self.b = v;
         self
     }
 
-    pub fn with_x(mut self, w: u16) -> Cpu
+    pub fn with_x(mut self, w: u16) -> Registers
         ensures { λ r. ⌜ r ≡ withX self w ⌝ }
     {
         self.x = w;
         self
     }
 
-    pub fn with_sp(mut self, w: u16) -> Cpu
+    pub fn with_sp(mut self, w: u16) -> Registers
         ensures { λ r. ⌜ r ≡ withSp self w ⌝ }
     {
         self.sp = w;
         self
     }
 
-    pub fn with_pc(mut self, w: u16) -> Cpu
+    pub fn with_pc(mut self, w: u16) -> Registers
         ensures { λ r. ⌜ r ≡ withPc self w ⌝ }
     {
         self.pc = w;
         self
     }
 
-    pub fn with_codes(mut self, k: Codes) -> Cpu
+    pub fn with_codes(mut self, k: Codes) -> Registers
         ensures { λ r. ⌜ r ≡ withCodes self k ⌝ }
     {
         self.codes = k;
         self
     }
 
-    pub fn with_waiting(mut self, w: bool) -> Cpu
+    pub fn with_waiting(mut self, w: bool) -> Registers
         ensures { λ r. ⌜ r ≡ withWaiting self w ⌝ }
     {
         self.waiting = w;
@@ -118,7 +118,7 @@ impl Cpu {
         pair(self.a, self.b)
     }
 
-    pub fn with_double(mut self, w: u16) -> Cpu
+    pub fn with_double(mut self, w: u16) -> Registers
         ensures { λ r. ⌜ r ≡ withD self w ⌝ }
     {
         self.a = upper(w);
@@ -135,7 +135,7 @@ impl Cpu {
         }
     }
 
-    pub fn with(self, acc: Accumulator, v: u8) -> Cpu
+    pub fn with(self, acc: Accumulator, v: u8) -> Registers
         ensures { λ r. ⌜ r ≡ withAccumulator acc self v ⌝ }
     {
         match acc {
@@ -145,7 +145,7 @@ impl Cpu {
     }
 
     // A result with its codes.
-    pub fn result(self, acc: Accumulator, r: Byte) -> Cpu
+    pub fn result(self, acc: Accumulator, r: Byte) -> Registers
         ensures { λ o. ⌜ o ≡ resultIn acc self r ⌝ }
     {
         let k = r.codes;
@@ -153,21 +153,21 @@ impl Cpu {
     }
 
     // The codes of a comparison's result.
-    fn compared(self, r: Byte) -> Cpu
+    fn compared(self, r: Byte) -> Registers
         ensures { λ o. ⌜ o ≡ withCodes self (r .codes) ⌝ }
     {
         let k = r.codes;
         self.with_codes(k)
     }
 
-    fn compared16(self, r: Word) -> Cpu
+    fn compared16(self, r: Word) -> Registers
         ensures { λ o. ⌜ o ≡ withCodes self (r .codes) ⌝ }
     {
         let k = r.codes;
         self.with_codes(k)
     }
 
-    fn result_double(self, r: Word) -> Cpu
+    fn result_double(self, r: Word) -> Registers
         ensures { λ o. ⌜ o ≡ resultInD self r ⌝ }
     {
         let k = r.codes;
@@ -176,9 +176,9 @@ impl Cpu {
 }
 
 // The operations.
-impl Cpu {
+impl Registers {
     // INX and DEX: X and Z.
-    fn indexing(self, x: u16) -> Cpu
+    fn indexing(self, x: u16) -> Registers
         ensures { λ r. ⌜ r ≡ withCodes (withX self x) (indexedOf x (self .codes)) ⌝ }
     {
         let k = self.codes;
@@ -186,7 +186,7 @@ impl Cpu {
     }
 
     // On the registers alone.
-    pub fn internal(self, op: Internal) -> Cpu
+    pub fn internal(self, op: Internal) -> Registers
         ensures { λ r. ⌜ r ≡ internalOf op self ⌝ }
     {
         let k = self.codes;
@@ -220,7 +220,7 @@ impl Cpu {
     }
 
     // On a 16-bit register and a word.
-    pub fn wide(self, op: Wide, w: u16) -> Cpu
+    pub fn wide(self, op: Wide, w: u16) -> Registers
         ensures { λ r. ⌜ r ≡ wideOf op w self ⌝ }
     {
         let k = self.codes;

@@ -2,12 +2,12 @@
 // Standard input has the cases: tools/vectors.py says how.
 use arithmetic::Codes;
 use bus::peek;
-use cpu::Chip;
+use chip::Chip;
 use machine::Look;
 use machine::Machine;
 use machine::Moved;
 use machine::Power;
-use registers::Cpu;
+use registers::Registers;
 ghost use Prim.Native.Nat.{_≤_};
 
 // What the image holds wherever no case has a cell.
@@ -123,7 +123,7 @@ fn beside_differs(case: &[u8], image: &[u8]) -> bool {
 
 // The machine, with the registers before the instruction.
 fn start(machine: Machine, case: &[u8]) -> Machine {
-    let cpu = Cpu {
+    let registers = Registers {
         a: peek(case, 2),
         b: peek(case, 3),
         x: word(case, 4),
@@ -133,7 +133,7 @@ fn start(machine: Machine, case: &[u8]) -> Machine {
         waiting: false,
     };
     let bus = machine.chip.bus;
-    let chip = Chip { cpu: cpu, bus: bus };
+    let chip = Chip { registers: registers, bus: bus };
     Machine {
         chip: chip,
         irq1: true,
@@ -141,23 +141,23 @@ fn start(machine: Machine, case: &[u8]) -> Machine {
     }
 }
 
-fn compare_registers(cpu: Cpu, case: &[u8]) -> Difference {
-    if cpu.pc != word(case, AFTER) {
+fn compare_registers(registers: Registers, case: &[u8]) -> Difference {
+    if registers.pc != word(case, AFTER) {
         return Difference::Pc;
     }
-    if cpu.a != peek(case, AFTER + 2) {
+    if registers.a != peek(case, AFTER + 2) {
         return Difference::A;
     }
-    if cpu.b != peek(case, AFTER + 3) {
+    if registers.b != peek(case, AFTER + 3) {
         return Difference::B;
     }
-    if cpu.x != word(case, AFTER + 4) {
+    if registers.x != word(case, AFTER + 4) {
         return Difference::X;
     }
-    if cpu.sp != word(case, AFTER + 6) {
+    if registers.sp != word(case, AFTER + 6) {
         return Difference::Sp;
     }
-    if cpu.codes.to_byte() != codes_seen(peek(case, AFTER + 8)) {
+    if registers.codes.to_byte() != codes_seen(peek(case, AFTER + 8)) {
         return Difference::Codes;
     }
     Difference::Nothing
@@ -165,7 +165,7 @@ fn compare_registers(cpu: Cpu, case: &[u8]) -> Difference {
 
 fn compare_time(moved: Moved, case: &[u8]) -> Difference {
     let cycles = peek(case, CYCLES);
-    if moved.machine.chip.cpu.waiting != (peek(case, WAITS) == 1) {
+    if moved.machine.chip.registers.waiting != (peek(case, WAITS) == 1) {
         return Difference::Waiting;
     }
     if moved.cycles.0 != cycles as u32 {
@@ -186,9 +186,9 @@ fn compare(moved: Moved, case: &[u8], image: &mut [u8]) -> Difference {
         return Difference::Beside;
     }
     let time = compare_time(moved, case);
-    let cpu = moved.machine.chip.cpu;
+    let registers = moved.machine.chip.registers;
     match time {
-        Difference::Nothing => compare_registers(cpu, case),
+        Difference::Nothing => compare_registers(registers, case),
         _ => time,
     }
 }

@@ -10,13 +10,13 @@ use Rattle.laws.proofs.Bools.{neither, and-true, and-false}
 use Rattle.turns.specs.Turn.{more}
 use Rattle.timer.specs.Timer.{ticks}
 use Rattle.serial.specs.Serial.{ticksSerial, serialRequest}
-use Rattle.registers.specs.declared.Cpu.{Cpu}
-use Rattle.registers.specs.Cpu.{idles}
+use Rattle.registers.specs.declared.Registers.{Registers}
+use Rattle.registers.specs.Registers.{idles}
 use Rattle.bus.specs.declared.Bus.{Bus}
 use Rattle.bus.specs.Access.{Memories, memories}
 use Rattle.bus.specs.Units.{passed}
 use Rattle.bus.proofs.Ranges as bus
-use Rattle.cpu.specs.Act.{out}
+use Rattle.chip.specs.Act.{out}
 use Rattle.machine.specs.declared.Machine.{Machine}
 use Rattle.machine.specs.declared.Look.{Look}
 use Rattle.machine.specs.Machine.{onChip, passedOf}
@@ -34,7 +34,7 @@ use Rattle.run.specs.Leaps.{isDue, First, stirs, strodeOf, Goes, Paced}
 use Rattle.run.proofs.Waiting.{accepts, later, not-due, same}
 
 -- other registers with the same I accept the same
-pub alike-due : (j : ℕ) (m : Machine) (c : Cpu) → c .codes .i ≡ m .chip .cpu .codes .i
+pub alike-due : (j : ℕ) (m : Machine) (c : Registers) → c .codes .i ≡ m .chip .registers .codes .i
     → isDue (pendingOf (onChip m c (passed j (m .chip .bus)))) ≡ isDue (pendingOf (passedOf j m))
 alike-due j m c e =
     later j (onChip m c (m .chip .bus))
@@ -44,17 +44,17 @@ alike-due j m c e =
     (ticks j (m .chip .bus .timer) .tof .set && m .chip .bus .timer .etoi)) e
     ∙ sym (later j m)
 
-pub strode-law : (s : State) (c : Cpu) (j i : ℕ) {b : Bus} {r : State} → b ≡ passed j (s .machine .chip .bus)
+pub strode-law : (s : State) (c : Registers) (j i : ℕ) {b : Bus} {r : State} → b ≡ passed j (s .machine .chip .bus)
     → r ≡ grownTo s (onChip (s .machine) c b) (grown j i 0 0) (s .inside && eqb i 0) → r ≡ strodeOf s c j i
 strode-law s c j i p q = q ∙ ap (λ (b : Bus). grownTo s (onChip (s .machine) c b) (grown j i 0 0) (s .inside && eqb i 0)) p
 
 -- no instruction yet
-pub strode-none : (s : State) → s ≡ strodeOf s (s .machine .chip .cpu) 0 0
+pub strode-none : (s : State) → s ≡ strodeOf s (s .machine .chip .registers) 0 0
 unfolding passed ticks ticksSerial
 strode-none s = same s refl (omega arith) (omega arith) (omega arith) (omega arith) (sym (and-true (s .inside)))
 
 -- one more, of k cycles
-strode-more : (s : State) (c d : Cpu) (j i k : ℕ)
+strode-more : (s : State) (c d : Registers) (j i k : ℕ)
     → grownTo (strodeOf s c j i) (passedOf k (onChip (s .machine) d (passed j (s .machine .chip .bus)))) (grown k 1 0 0) false
     ≡ strodeOf s d (j + k) (i + 1)
 strode-more s c d j i k =
@@ -64,8 +64,8 @@ strode-more s c d j i k =
 
 module _ (t : Terms) (s : State) where
   -- as long as nothing stirs, a boundary is the next instruction
-  pub stride-turn : (c d : Cpu) (j i k : ℕ) (image after o : List ℕ) → s .cycles .0 + j < t .limit → stirs t s j ≡ false
-      → idles c ≡ false → c .codes .i ≡ s .machine .chip .cpu .codes .i
+  pub stride-turn : (c d : Registers) (j i k : ℕ) (image after o : List ℕ) → s .cycles .0 + j < t .limit → stirs t s j ≡ false
+      → idles c ≡ false → c .codes .i ≡ s .machine .chip .registers .codes .i
       → Steps (memories image) (strodeOf s c j i .machine) k (out d (passed j (s .machine .chip .bus)) (memories after))
       → boundaryOf t (worldOf (strodeOf s c j i) (lent image o)) ≡ more (worldOf (strodeOf s d (j + k) (i + 1)) (lent after o))
   unfolding passed
@@ -98,9 +98,9 @@ below-room room cycles a b on = leb-false room cycles (neither (leb room cycles)
 
 module _ (t : Terms) (s : State) where
   -- one turn of the stride
-  pub strides : (room : ℕ) (c e : Cpu) (j i k : ℕ) (image₀ image after : List ℕ) {idle : Bool}
+  pub strides : (room : ℕ) (c e : Registers) (j i k : ℕ) (image₀ image after : List ℕ) {idle : Bool}
       → First (t .limit - s .cycles .0) room (stirs t s)
-      → idle ≡ idles c → ends room j idle (c .codes .i) (s .machine .chip .cpu .codes .i) ≡ false
+      → idle ≡ idles c → ends room j idle (c .codes .i) (s .machine .chip .registers .codes .i) ≡ false
       → Hopped (s .machine .chip .bus .r) c (memories image) k e (memories after)
       → Goes t s image₀ (strodeOf s c j i) image → Goes t s image₀ (strodeOf s e (j + k) (i + 1)) after
   unfolding passed
@@ -114,7 +114,7 @@ module _ (t : Terms) (s : State) where
       (stride-turn t s c e j i k image after o (omega arith) (first .before j l) (sym told ∙ p .1) (alike _ _ (q .1))
       (hopped .hops (passed j (s .machine .chip .bus)) (s .machine .irq1) (s .machine .nmi) refl))
 
-  pub stride-ends : (c : Cpu) (j i : ℕ) (image₀ image after : List ℕ) {r : State} → Fine s → i ≤ j
+  pub stride-ends : (c : Registers) (j i : ℕ) (image₀ image after : List ℕ) {r : State} → Fine s → i ≤ j
       → Goes t s image₀ (strodeOf s c j i) image → after ≡ image → r ≡ strodeOf s c j i → Paced t s image₀ r after
   stride-ends c j i image₀ image after f l goes e q =
       let x = f .instructions in

@@ -15,7 +15,7 @@ use Rattle.timer.proofs.Closed.{ticks-untouched}
 use Rattle.serial.specs.declared.Serial.{Serial as Transmitter}
 use Rattle.serial.specs.Serial.{ticksSerial, serialRequest, wantsToSend}
 use Rattle.serial.proofs.Cycles.{ticks-request, ticks-closed}
-use Rattle.registers.specs.Cpu.{idles}
+use Rattle.registers.specs.Registers.{idles}
 use Rattle.bus.specs.Units.{passed}
 use Rattle.session.specs.Session.{timeAt, dueAt}
 use Rattle.machine.specs.declared.Machine.{Machine}
@@ -56,7 +56,7 @@ flat k0 k1 k2 k3 k4 k5 false false false false false false false = refl
 
 -- j cycles later only OCF and TOF can have come
 pub later : (j : ℕ) (m : Machine) → isDue (pendingOf (passedOf j m))
-    ≡ accepts (m .nmi) (m .chip .cpu .codes .i)
+    ≡ accepts (m .nmi) (m .chip .registers .codes .i)
     ((not (m .irq1) || (m .chip .bus .timer .icf .set && m .chip .bus .timer .eici)) || serialRequest (m .chip .bus .serial))
     (ticks j (m .chip .bus .timer) .ocf .set && m .chip .bus .timer .eoci)
     (ticks j (m .chip .bus .timer) .tof .set && m .chip .bus .timer .etoi)
@@ -64,7 +64,7 @@ unfolding pendingOf passed
 later j m =
     let t = m .chip .bus .timer in
     let u = ticks-untouched j t in
-    flat Nmi Irq1 Icf Ocf Tof Serial (m .nmi) (m .chip .cpu .codes .i) (not (m .irq1))
+    flat Nmi Irq1 Icf Ocf Tof Serial (m .nmi) (m .chip .registers .codes .i) (not (m .irq1))
     (ticks j t .icf .set && ticks j t .eici) (ticks j t .ocf .set && ticks j t .eoci) (ticks j t .tof .set && ticks j t .etoi)
     (serialRequest (ticksSerial j (m .chip .bus .serial)))
     ∙ rw (u .eoci, u .etoi, u .eici, u .icf, ticks-request j (m .chip .bus .serial))
@@ -96,7 +96,7 @@ not-due Nothing e = refl
 not-due (Due k) e = absurd (true≢false e)
 
 -- within a wait, as the code tells it
-pub waits : (s : State) {idle b : Bool} → idle ≡ idles (s .machine .chip .cpu) → (s .inside && idle) ≡ b → (s .inside && idles (s .machine .chip .cpu)) ≡ b
+pub waits : (s : State) {idle b : Bool} → idle ≡ idles (s .machine .chip .registers) → (s .inside && idle) ≡ b → (s .inside && idles (s .machine .chip .registers)) ≡ b
 waits s e f = ap (λ (i : Bool). s .inside && i) (sym e) ∙ f
 
 -- j waiting cycles more
@@ -130,7 +130,7 @@ still-suc : (s : State) (j : ℕ) → waitedState (still s j) ≡ still s (suc j
 unfolding waitedState passed ticks ticksSerial
 still-suc s j = same s refl (omega arith) (omega arith) (omega arith) (omega arith) refl
 
-module _ (t : Terms) (s : State) (ins : s .inside ≡ true) (wait : idles (s .machine .chip .cpu) ≡ true) where
+module _ (t : Terms) (s : State) (ins : s .inside ≡ true) (wait : idles (s .machine .chip .registers) ≡ true) where
   -- as long as nothing stirs, the waiting cycles may be passed at once
   pub leap-law : (k : ℕ) → First (t .limit - s .cycles .0) k (stirs t s) → (l : Lent) → runOf t (worldOf s l) ≡ runOf t (worldOf (still s k) l)
   unfolding passed
@@ -181,7 +181,7 @@ limit-ends t s h = by _ _ _ _ (le-leb (t .limit) (s .cycles .0) h)
     by true b c d e = refl
     by false b c d e = absurd (false≢true e)
 
-pub leapt : (t : Terms) (s : State) (k : ℕ) {r : State} {m : Machine} → (s .inside && idles (s .machine .chip .cpu)) ≡ true
+pub leapt : (t : Terms) (s : State) (k : ℕ) {r : State} {m : Machine} → (s .inside && idles (s .machine .chip .registers)) ≡ true
     → First (t .limit - s .cycles .0) k (stirs t s) → Fine s → m ≡ passedOf k (s .machine) → r ≡ grownTo s m (grown k 0 0 0) true
     → Leapt t s r
 leapt t s k w h f p q =

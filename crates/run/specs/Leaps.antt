@@ -9,8 +9,8 @@ use lib.Dec.{leb, eqb}
 use Rattle.session.specs.Session.{dueAt}
 use Rattle.serial.specs.Serial.{wantsToSend, ticksSerial}
 use Rattle.bus.specs.Units.{passed}
-use Rattle.registers.specs.declared.Cpu.{Cpu}
-use Rattle.registers.specs.Cpu.{idles}
+use Rattle.registers.specs.declared.Registers.{Registers}
+use Rattle.registers.specs.Registers.{idles}
 use Rattle.machine.specs.declared.Pending.{Pending}
 use Rattle.machine.specs.declared.Pending.the-variants.{Nothing, Due}
 use Rattle.machine.specs.Machine.{onChip, passedOf}
@@ -44,11 +44,11 @@ stirs t s j =
 abbrev pub Leapt : Terms → State → State → Type 0
 Leapt t s r =
     Fine r × (s .cycles .0 ≤ r .cycles .0)
-    × ((s .inside && idles (s .machine .chip .cpu)) ≡ true → endsLeap t r ≡ true)
+    × ((s .inside && idles (s .machine .chip .registers)) ≡ true → endsLeap t r ≡ true)
     × ((l : Lent) → runOf t (worldOf s l) ≡ runOf t (worldOf r l))
 
 -- the state after plain instructions: the registers are c, and on the bus only their cycles have passed
-abbrev pub strodeOf : State → Cpu → ℕ → ℕ → State
+abbrev pub strodeOf : State → Registers → ℕ → ℕ → State
 strodeOf s c cycles instructions =
     grownTo s (onChip (s .machine) c (passed cycles (s .machine .chip .bus)))
     (grown cycles instructions 0 0)

@@ -9,10 +9,10 @@ use counts::Cycles;
 use counts::Entries;
 use counts::Instructions;
 use counts::Leaps;
-use cpu::Chip;
+use chip::Chip;
 use machine::Machine;
 use plain::Hop;
-use registers::Cpu;
+use registers::Registers;
 use serial::Serial;
 use timer::Timer;
 ghost use mathlib.Core.Path.{_≡_};
@@ -93,7 +93,7 @@ fn interrupt_room(most: u32, m: Machine) -> u32
     if m.nmi {
         return 0;
     }
-    if m.chip.cpu.codes.i {
+    if m.chip.registers.codes.i {
         return most;
     }
     let t = m.chip.bus.timer;
@@ -119,7 +119,7 @@ fn leap(session: &[u8], n: u32, s: State) -> State
     requires { ⌜ Fine s × (n ≤ 1000000000) ⌝ }
     ensures { λ r. ⌜ Leapt (terms (now (session .entry)) n) s r ⌝ }
 {
-    if !(s.inside & s.machine.chip.cpu.idles()) {
+    if !(s.inside & s.machine.chip.registers.idles()) {
         return s;
     }
     if n <= s.cycles.0 {
@@ -137,13 +137,13 @@ fn leap(session: &[u8], n: u32, s: State) -> State
 }
 
 // The state after so many instructions and cycles that left the bus alone.
-fn strode(s: State, c: Cpu, cycles: Cycles, instructions: Instructions) -> State
+fn strode(s: State, c: Registers, cycles: Cycles, instructions: Instructions) -> State
     requires { ⌜ Fits s (grown (cycles .0) (instructions .0) 0 0) ⌝ }
     ensures { λ r. ⌜ r ≡ strodeOf s c (cycles .0) (instructions .0) ⌝ }
 {
     let m = s.machine;
     let bus = m.chip.bus.pass(cycles.0);
-    let chip = Chip { cpu: c, bus: bus };
+    let chip = Chip { registers: c, bus: bus };
     let next = Machine {
         chip: chip,
         irq1: m.irq1,
@@ -169,9 +169,9 @@ fn stride(session: &[u8], n: u32, s: State, image: &mut [u8]) -> State
     }
     let m = s.machine;
     let room = room(session, n, s);
-    let masked = m.chip.cpu.codes.i;
+    let masked = m.chip.registers.codes.i;
     let start = m.chip.bus.r;
-    let mut c = m.chip.cpu;
+    let mut c = m.chip.registers;
     let mut cycles = 0;
     let mut instructions = 0;
     loop {
@@ -197,7 +197,7 @@ fn pace(leaping: bool, session: &[u8], n: u32, s: State, image: &mut [u8]) -> St
     requires { ⌜ Fine s × (n ≤ 1000000000) ⌝ }
     ensures { λ r. ⌜ Paced (terms (now (session .entry)) n) s (now (image .entry)) r (now (image .exit)) ⌝ }
 {
-    if s.machine.chip.cpu.idles() {
+    if s.machine.chip.registers.idles() {
         if leaping {
             return leap(session, n, s);
         }

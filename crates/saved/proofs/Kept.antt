@@ -9,7 +9,7 @@ use Rattle.bits.specs.Bits.{weight, bit}
 use Rattle.bits.specs.declared.Flag.{Flag}
 use Rattle.arithmetic.specs.Codes.{codesByte}
 use Rattle.arithmetic.proofs.CodesByte.{codes-kept, codes-above, codes-below}
-use Rattle.registers.specs.declared.Cpu.{Cpu}
+use Rattle.registers.specs.declared.Registers.{Registers}
 use Rattle.timer.specs.declared.Timer.{Timer}
 use Rattle.serial.specs.declared.Serial.{Serial}
 use Rattle.serial.specs.Serial.{trcsOf}
@@ -17,14 +17,14 @@ use Rattle.bus.specs.declared.Bus.{Bus}
 use Rattle.bus.specs.Access.{ramControlOf}
 use Rattle.machine.specs.declared.Machine.{Machine}
 use Rattle.machine.specs.Machine.{rangesOf}
-use Rattle.saved.specs.Layout.{armsOf, savedOf, cpuIn, portsIn, timerIn, serialIn, busIn, machineIn}
+use Rattle.saved.specs.Layout.{armsOf, savedOf, registersIn, portsIn, timerIn, serialIn, busIn, machineIn}
 use Rattle.saved.specs.Answers.{gives, replies, standsOf, rangesIn, loadOf}
 use Rattle.saved.proofs.Bytes.{word-kept, long-kept, bool-kept, bool-most, bits-kept, arms-none, control-none}
 use Rattle.saved.proofs.Answers.{wrong-machine, ready}
 
 module _ (m : Machine) where
-  abbrev c : Cpu
-  c = m .chip .cpu
+  abbrev c : Registers
+  c = m .chip .registers
 
   abbrev b : Bus
   b = m .chip .bus
@@ -35,9 +35,9 @@ module _ (m : Machine) where
   abbrev s : Serial
   s = b .serial
 
-  cpu-kept : cpuIn (savedOf m) ≡ c
+  registers-kept : registersIn (savedOf m) ≡ c
   unfolding savedOf
-  cpu-kept =
+  registers-kept =
       λ i. record {
         a = c .a;
         b = c .b;
@@ -102,7 +102,7 @@ module _ (m : Machine) where
   pub machine-kept : machineIn (savedOf m) ≡ m
   unfolding savedOf machineIn
   machine-kept =
-      λ i. record { chip = record { cpu = cpu-kept i; bus = bus-kept i }; irq1 = bool-kept (m .irq1) i; nmi = bool-kept (m .nmi) i }
+      λ i. record { chip = record { registers = registers-kept i; bus = bus-kept i }; irq1 = bool-kept (m .irq1) i; nmi = bool-kept (m .nmi) i }
 
   stands-kept : standsOf (savedOf m) ≡ true
   unfolding savedOf standsOf

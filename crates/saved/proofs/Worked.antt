@@ -9,8 +9,8 @@ use Rattle.timer.specs.Timer.{timerRanges, resetTimer}
 use Rattle.serial.specs.Serial.{trcsOf, serialRanges, resetSerial}
 use Rattle.bus.specs.Access.{memories, readOf}
 use Rattle.bus.specs.Units.{resetBus, busRanges}
-use Rattle.cpu.specs.Act.{run, read, _>>=_}
-use Rattle.cpu.specs.Instructions.{read2}
+use Rattle.chip.specs.Act.{run, read, _>>=_}
+use Rattle.chip.specs.Instructions.{read2}
 use Rattle.machine.specs.declared.Machine.{Machine}
 use Rattle.machine.specs.Machine.{resetAct, resetOf, cold}
 use Rattle.saved.specs.Layout.{savedOf, machineIn}
@@ -44,7 +44,7 @@ abbrev pub sample : Machine
 sample =
     record {
       chip = record {
-        cpu = record { a = 0x0A; b = 0x0B; x = 0x1234; sp = 0x5678; pc = 0x9ABC; codes = record { h = true; i = false; n = true; z = false; v = false; c = true }; waiting = true };
+        registers = record { a = 0x0A; b = 0x0B; x = 0x1234; sp = 0x5678; pc = 0x9ABC; codes = record { h = true; i = false; n = true; z = false; v = false; c = true }; waiting = true };
         bus = record {
           ports = record {
             port1 = record { direction = 0x11; latch = 0x12; pins = 0x13 };

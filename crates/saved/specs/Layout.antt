@@ -21,7 +21,7 @@ use Rattle.bits.specs.Bits.{weight, bit, byteOf}
 use Rattle.bits.specs.Words.{high, low}
 use Rattle.bits.specs.declared.Flag.{Flag}
 use Rattle.arithmetic.specs.Codes.{codesByte, codesOf}
-use Rattle.registers.specs.declared.Cpu.{Cpu}
+use Rattle.registers.specs.declared.Registers.{Registers}
 use Rattle.ports.specs.declared.Port.{Port}
 use Rattle.ports.specs.declared.Ports.{Ports}
 use Rattle.timer.specs.declared.Timer.{Timer}
@@ -39,7 +39,7 @@ armsOf f5 f6 f7 = byteOf false false false false false (f5 .armed) (f6 .armed) (
 -- the machine as bytes
 unfoldable pub savedOf : Machine → List ℕ
 savedOf m =
-    let c = m .chip .cpu in
+    let c = m .chip .registers in
     let b = m .chip .bus in
     let p = b .ports in
     let t = b .timer in
@@ -75,8 +75,8 @@ abbrev pub flagOf : ℕ → ℕ → ℕ → Flag
 flagOf register arms w = record { set = bit register w; armed = bit arms w }
 
 -- the machine that bytes stand for, unit by unit
-abbrev pub cpuIn : List ℕ → Cpu
-cpuIn l =
+abbrev pub registersIn : List ℕ → Registers
+registersIn l =
     record { a = byteAt l 2; b = byteAt l 3; x = wordAt l 4; sp = wordAt l 6; pc = wordAt l 8; codes = codesOf (byteAt l 10); waiting = boolAt l 11 }
 
 abbrev pub portAt : List ℕ → ℕ → Port
@@ -128,4 +128,4 @@ busIn l =
     record { ports = portsIn l; timer = timerIn l; serial = serialIn l; rame = bit (byteAt l 35) 64; standby = bit (byteAt l 35) 128; r = longAt l 38 }
 
 unfoldable pub machineIn : List ℕ → Machine
-machineIn l = record { chip = record { cpu = cpuIn l; bus = busIn l }; irq1 = boolAt l 13; nmi = boolAt l 12 }
+machineIn l = record { chip = record { registers = registersIn l; bus = busIn l }; irq1 = boolAt l 13; nmi = boolAt l 12 }

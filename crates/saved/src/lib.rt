@@ -5,11 +5,11 @@ use bits::byte_of;
 use bits::lower;
 use bits::upper;
 use bus::Bus;
-use cpu::Chip;
+use chip::Chip;
 use machine::Machine;
 use ports::Port;
 use ports::Ports;
-use registers::Cpu;
+use registers::Registers;
 use serial::Serial;
 use timer::Timer;
 use timer::TimerRegister;
@@ -18,7 +18,7 @@ ghost use Prim.Native.Nat.{_/_, _≤_, _<_};
 ghost use Rattle.bits.specs.Bits.{weight};
 ghost use Rattle.bus.specs.Access.{ramControlOf};
 ghost use Rattle.saved.specs.Layout.{armsOf, savedOf, byteAt, wordAt, longAt, boolAt, flagOf};
-ghost use Rattle.saved.specs.Layout.{cpuIn, portAt, portsIn, timerIn, serialIn, busIn, machineIn};
+ghost use Rattle.saved.specs.Layout.{registersIn, portAt, portsIn, timerIn, serialIn, busIn, machineIn};
 ghost use Rattle.saved.specs.Answers.{toldSaved, saveOf, leftOf, toldLoaded, standsOf, rangesIn, loadOf};
 
 // What saving answers.
@@ -59,21 +59,21 @@ fn arms(f5: Flag, f6: Flag, f7: Flag) -> u8
 }
 
 // Bytes 2 to 13: the processor and its two lines.
-fn cpu_byte(m: Machine, k: usize) -> u8
+fn registers_byte(m: Machine, k: usize) -> u8
     requires { ⌜ (2 ≤ k) × (k < 14) ⌝ }
     ensures { λ r. ⌜ r ≡ byteAt (savedOf m) k ⌝ }
 {
     match k {
-        2 => m.chip.cpu.a,
-        3 => m.chip.cpu.b,
-        4 => lower(m.chip.cpu.x),
-        5 => upper(m.chip.cpu.x),
-        6 => lower(m.chip.cpu.sp),
-        7 => upper(m.chip.cpu.sp),
-        8 => lower(m.chip.cpu.pc),
-        9 => upper(m.chip.cpu.pc),
-        10 => m.chip.cpu.codes.to_byte(),
-        11 => bool_byte(m.chip.cpu.waiting),
+        2 => m.chip.registers.a,
+        3 => m.chip.registers.b,
+        4 => lower(m.chip.registers.x),
+        5 => upper(m.chip.registers.x),
+        6 => lower(m.chip.registers.sp),
+        7 => upper(m.chip.registers.sp),
+        8 => lower(m.chip.registers.pc),
+        9 => upper(m.chip.registers.pc),
+        10 => m.chip.registers.codes.to_byte(),
+        11 => bool_byte(m.chip.registers.waiting),
         12 => bool_byte(m.nmi),
         _ => bool_byte(m.irq1),
     }
@@ -174,7 +174,7 @@ fn saved_byte(m: Machine, k: usize) -> u8
         return 0;
     }
     if k < 14 {
-        return cpu_byte(m, k);
+        return registers_byte(m, k);
     }
     if k < 21 {
         return port_byte(m, k);
@@ -241,10 +241,10 @@ fn flag_of(register: u8, arms: u8, w: u8) -> Flag
     }
 }
 
-fn cpu_in(bytes: &[u8]) -> Cpu
-    ensures { λ r. ⌜ r ≡ cpuIn (now (bytes .entry)) ⌝ }
+fn registers_in(bytes: &[u8]) -> Registers
+    ensures { λ r. ⌜ r ≡ registersIn (now (bytes .entry)) ⌝ }
 {
-    Cpu {
+    Registers {
         a: byte_at(bytes, 2),
         b: byte_at(bytes, 3),
         x: word_at(bytes, 4),
@@ -337,9 +337,9 @@ fn bus_in(bytes: &[u8]) -> Bus
 fn machine_in(bytes: &[u8]) -> Machine
     ensures { λ r. ⌜ r ≡ machineIn (now (bytes .entry)) ⌝ }
 {
-    let cpu = cpu_in(bytes);
+    let registers = registers_in(bytes);
     let bus = bus_in(bytes);
-    let chip = Chip { cpu: cpu, bus: bus };
+    let chip = Chip { registers: registers, bus: bus };
     Machine {
         chip: chip,
         irq1: bool_at(bytes, 13),

@@ -47,7 +47,7 @@ fn hexadecimal(name: &[u8], n: u64, digits: usize)
 
 fn show(r: Ran, first: u8, second: u8) {
     let reply = r.reply;
-    let c = r.machine.chip.cpu;
+    let c = r.machine.chip.registers;
     number(b" stop ", reply.number() as u64);
     number(b" cycles ", r.cycles.0 as u64);
     number(b" instr ", r.instructions.0 as u64);

@@ -1,9 +1,9 @@
 use borrow.Author.Needs.{needs}
 use Rattle.plain.proofs.Hopping.{is-made, is-left}
 use mathlib.Core.Path.{sym}
-use Rattle.cpu.proofs.ActLaws.{after, ends}
+use Rattle.chip.proofs.ActLaws.{after, ends}
 use Rattle.plain.proofs.Accesses.{alone, reads}
-use Rattle.cpu.specs.Shapes.{loads}
+use Rattle.chip.specs.Shapes.{loads}
 use Rattle.plain.proofs.load.Statement.{statement}
 use Rattle.plain.proofs.load.Tie as tie
 

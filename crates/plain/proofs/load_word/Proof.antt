@@ -1,9 +1,9 @@
 use borrow.Author.Needs.{needs}
 use Rattle.plain.proofs.Hopping.{is-made, is-left}
 use mathlib.Core.Path.{sym}
-use Rattle.cpu.proofs.ActLaws.{after, ends}
+use Rattle.chip.proofs.ActLaws.{after, ends}
 use Rattle.plain.proofs.Accesses.{alone, reads2}
-use Rattle.cpu.specs.Shapes.{loadsWord}
+use Rattle.chip.specs.Shapes.{loadsWord}
 use Rattle.plain.proofs.load_word.Statement.{statement}
 use Rattle.plain.proofs.load_word.Tie as tie
 

@@ -1,8 +1,8 @@
 use borrow.Author.Needs.{needs}
 use Rattle.plain.proofs.Hopping.{is-made, is-left}
-use Rattle.cpu.proofs.ActLaws.{after, ends}
+use Rattle.chip.proofs.ActLaws.{after, ends}
 use Rattle.plain.proofs.Accesses.{alone, reads, writes}
-use Rattle.cpu.specs.Shapes.{modifies}
+use Rattle.chip.specs.Shapes.{modifies}
 use Rattle.plain.proofs.modify.Statement.{statement}
 use Rattle.plain.proofs.modify.Tie as tie
 

@@ -1,9 +1,9 @@
 use borrow.Author.Needs.{needs}
 use Rattle.plain.proofs.Hopping.{is-made, is-left}
 use mathlib.Core.Path.{sym}
-use Rattle.cpu.proofs.ActLaws.{after, ends}
+use Rattle.chip.proofs.ActLaws.{after, ends}
 use Rattle.plain.proofs.Accesses.{alone, writes}
-use Rattle.cpu.specs.Shapes.{stores}
+use Rattle.chip.specs.Shapes.{stores}
 use Rattle.plain.proofs.store.Statement.{statement}
 use Rattle.plain.proofs.store.Tie as tie
 

@@ -1,9 +1,9 @@
 use borrow.Author.Needs.{needs}
 use Rattle.plain.proofs.Hopping.{is-made, is-left}
 use mathlib.Core.Path.{sym}
-use Rattle.cpu.proofs.ActLaws.{after, ends}
+use Rattle.chip.proofs.ActLaws.{after, ends}
 use Rattle.plain.proofs.Accesses.{alone, writes2}
-use Rattle.cpu.specs.Shapes.{storesWord}
+use Rattle.chip.specs.Shapes.{storesWord}
 use Rattle.plain.proofs.store_word.Statement.{statement}
 use Rattle.plain.proofs.store_word.Tie as tie
 

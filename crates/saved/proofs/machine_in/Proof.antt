@@ -9,8 +9,8 @@ unfolding machineIn
 machine-in-spec =
     tie.close
     (tie.spec
-    (λ c κs. search needs)  -- cpu-in-requires
+    (λ c κs. search needs)  -- registers-in-requires
     (λ c κs. search needs)  -- bus-in-requires
     (λ c κs. search needs)  -- bool-at-requires
     (λ c κs. search needs)  -- bool-at-requires-2
-    (λ c. rw (c .bool-at2 .ensures, c .before .bool-at .ensures, c .before .before .bus-in .ensures, c .before .before .before .cpu-in .ensures)))  -- returns
+    (λ c. rw (c .bool-at2 .ensures, c .before .bool-at .ensures, c .before .before .bus-in .ensures, c .before .before .before .registers-in .ensures)))  -- returns

@@ -13,8 +13,8 @@ saved-byte-spec =
     (tie.spec
     (λ c. there (c .before .args .m) (c .if1 .taken) refl)  -- returns
     (λ c. there (c .before .before .args .m) (c .if2 .taken) refl)  -- returns-2
-    (λ c κs. omega (arith, c .before .before .before .pre, c .before .before .if1 .left, c .before .if2 .left, c .if3 .taken))  -- cpu-byte-requires
-    (λ c. c .cpu-byte .ensures)  -- returns-3
+    (λ c κs. omega (arith, c .before .before .before .pre, c .before .before .if1 .left, c .before .if2 .left, c .if3 .taken))  -- registers-byte-requires
+    (λ c. c .registers-byte .ensures)  -- returns-3
     (λ c κs. omega (arith, c .before .before .before .before .pre, c .before .before .before .if1 .left, c .before .before .if2 .left, c .before .if3 .left, c .if4 .taken))  -- port-byte-requires
     (λ c. c .port-byte .ensures)  -- returns-4
     (λ c κs. omega (

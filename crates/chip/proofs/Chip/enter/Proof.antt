@@ -1,0 +1,16 @@
+use borrow.Author.Needs.{needs}
+use Rattle.chip.proofs.Entry.{enter-waiting, enter-stacking}
+use Rattle.chip.proofs.Chip.enter.Statement.{statement}
+use Rattle.chip.proofs.Chip.enter.Tie as tie
+
+pub enter-spec : {M : Type 1} → statement M
+enter-spec =
+    tie.close
+    (tie.spec
+    (λ c κs. search needs)  -- vectored-requires
+    (λ c. search needs)  -- same-length
+    (λ c. enter-waiting _ _ _ _ (c .before .before .if1 .taken) (c .vectored .ensures))  -- returns
+    (λ c κs. search needs)  -- stack-all-requires
+    (λ c κs. search needs)  -- vectored-requires-2
+    (λ c. search needs)  -- same-length-2
+    (λ c. enter-stacking _ _ _ _ (c .before .before .before .before .before .before .if1 .left) (c .before .before .before .before .stack-all .ensures) (c .vectored2 .ensures)))  -- returns-2

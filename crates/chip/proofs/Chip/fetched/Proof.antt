@@ -1,0 +1,14 @@
+use borrow.Author.Needs.{needs}
+use Rattle.bus.proofs.Stores.{plain-read}
+use Rattle.chip.proofs.Chip.fetched.Statement.{statement}
+use Rattle.chip.proofs.Chip.fetched.Tie as tie
+
+pub fetched-spec : {M : Type 1} → statement M
+fetched-spec =
+    tie.close
+    (tie.spec
+    (λ c κs. search needs)  -- plus-requires
+    (λ c κs. search needs)  -- with-pc-requires
+    (λ c κs. search needs)  -- read-requires
+    (λ c. rw (c .before .before .before .with-pc .ensures, c .before .before .before .before .plus .ensures, c .before .read .ensures))  -- returns
+    (λ c. rw (c .before .with-pc .ensures, c .before .before .plus .ensures, plain-read _ _ _ (c .if1 .left))))  -- returns-2
