@@ -28,7 +28,10 @@ fn stopped(ran: Ran) -> Line
 {
     let reply = ran.reply;
     let stop = lines::numbered(Line::empty(), b"stop ", reply.number() as u64);
-    lines::registers(lines::counts(stop, numbers(ran)), ran.machine.chip.registers)
+    lines::registers(
+        lines::counts(stop, numbers(ran)),
+        ran.machine.chip.registers,
+    )
 }
 
 // What a run comes to.

@@ -77,7 +77,10 @@ fn spot_at(at: u16, c: Registers, b: Bus, n: u16) -> Located
     ensures { λ r. ⌜ r ≡ record { at = at; chip = chipOf (withPc c (up (c .pc) n)) b } ⌝ }
 {
     let registers = c.with_pc(plus(c.pc, n));
-    let chip = Chip { registers: registers, bus: b };
+    let chip = Chip {
+        registers: registers,
+        bus: b,
+    };
     Located { at: at, chip: chip }
 }
 
@@ -123,7 +126,10 @@ impl Chip {
         let c = self.registers;
         let bus = self.bus.write(image, c.sp, v);
         let registers = c.with_sp(minus(c.sp, 1));
-        Chip { registers: registers, bus: bus }
+        Chip {
+            registers: registers,
+            bus: bus,
+        }
     }
 
     fn push_word(self, w: u16, image: &mut [u8]) -> Chip
@@ -141,7 +147,10 @@ impl Chip {
         let f = self.bus.read(image, sp);
         let bus = f.next;
         let registers = c.with_sp(sp);
-        let chip = Chip { registers: registers, bus: bus };
+        let chip = Chip {
+            registers: registers,
+            bus: bus,
+        };
         Popped {
             value: f.value,
             chip: chip,
@@ -191,7 +200,10 @@ impl Chip {
             codes: arithmetic::Codes::from_byte(k.value),
             waiting: self.registers.waiting,
         };
-        Chip { registers: registers, bus: bus }
+        Chip {
+            registers: registers,
+            bus: bus,
+        }
     }
 
     // I set, PC from a vector, no wait.
@@ -204,7 +216,10 @@ impl Chip {
         let registers = c.with_pc(w.value)
             .with_codes(registers::with_i(c.codes, true))
             .with_waiting(false);
-        Chip { registers: registers, bus: bus }
+        Chip {
+            registers: registers,
+            bus: bus,
+        }
     }
 
     fn swi(self, image: &mut [u8]) -> Chip
@@ -220,7 +235,10 @@ impl Chip {
         let p = self.stack_all(image);
         let bus = p.bus;
         let registers = p.registers.with_waiting(true);
-        Chip { registers: registers, bus: bus }
+        Chip {
+            registers: registers,
+            bus: bus,
+        }
     }
 
     // Interrupt entry.
@@ -242,7 +260,10 @@ impl Chip {
     {
         let bus = self.bus;
         let registers = op.done(at, self.registers);
-        Chip { registers: registers, bus: bus }
+        Chip {
+            registers: registers,
+            bus: bus,
+        }
     }
 
     fn load(self, op: Loading, at: u16, image: &[u8]) -> Chip
@@ -252,7 +273,10 @@ impl Chip {
         let f = self.bus.read(image, op.address(at, c));
         let bus = f.next;
         let registers = op.loaded(f.value, c);
-        Chip { registers: registers, bus: bus }
+        Chip {
+            registers: registers,
+            bus: bus,
+        }
     }
 
     fn load_word(self, op: LoadingWord, at: u16, image: &[u8]) -> Chip
@@ -262,7 +286,10 @@ impl Chip {
         let w = read_word(self.bus, image, op.address(at, c));
         let bus = w.next;
         let registers = op.loaded(w.value, c);
-        Chip { registers: registers, bus: bus }
+        Chip {
+            registers: registers,
+            bus: bus,
+        }
     }
 
     fn store(self, op: Storing, at: u16, image: &mut [u8]) -> Chip
@@ -271,7 +298,10 @@ impl Chip {
         let c = self.registers;
         let bus = self.bus.write(image, op.address(at, c), op.byte(c));
         let registers = op.stored(c);
-        Chip { registers: registers, bus: bus }
+        Chip {
+            registers: registers,
+            bus: bus,
+        }
     }
 
     fn store_word(self, op: WideStore, at: u16, image: &mut [u8]) -> Chip
@@ -280,7 +310,10 @@ impl Chip {
         let c = self.registers;
         let bus = write_word(self.bus, image, at, c.stored(op));
         let registers = operations::stored_word(op, c);
-        Chip { registers: registers, bus: bus }
+        Chip {
+            registers: registers,
+            bus: bus,
+        }
     }
 
     // Read, modify, write.
@@ -292,7 +325,10 @@ impl Chip {
         let r = arithmetic::monadic(op, f.value, c.codes);
         let bus = f.next.write(image, at, r.value);
         let registers = c.with_codes(r.codes);
-        Chip { registers: registers, bus: bus }
+        Chip {
+            registers: registers,
+            bus: bus,
+        }
     }
 
     fn push_of(self, op: Pushing, at: u16, image: &mut [u8]) -> Chip
@@ -301,7 +337,10 @@ impl Chip {
         let p = self.push_word(op.word(self.registers), image);
         let bus = p.bus;
         let registers = op.pushed(at, p.registers);
-        Chip { registers: registers, bus: bus }
+        Chip {
+            registers: registers,
+            bus: bus,
+        }
     }
 }
 

@@ -1,7 +1,7 @@
 // The machine: the chip with its lines, its ranges, reset and power-on, interrupts, events and one step.
 use bus::Bus;
-use counts::Cycles;
 use chip::Chip;
+use counts::Cycles;
 use opcodes::Decoded;
 use opcodes::Instruction;
 use ports::Port;
@@ -109,7 +109,10 @@ fn cold_machine(r: u32) -> Machine
         r: r,
     };
     let registers = reset_registers(0);
-    let chip = Chip { registers: registers, bus: bus };
+    let chip = Chip {
+        registers: registers,
+        bus: bus,
+    };
     Machine {
         chip: chip,
         irq1: true,
@@ -196,7 +199,10 @@ impl Machine {
         );
         let bus = w.next;
         let registers = reset_registers(w.value);
-        let chip = Chip { registers: registers, bus: bus };
+        let chip = Chip {
+            registers: registers,
+            bus: bus,
+        };
         Machine {
             chip: chip,
             irq1: self.irq1,

@@ -263,7 +263,13 @@ impl Night {
             sent: self.sent as u64,
         };
         let ended = self.ended;
-        closing(ended, self.slices.0, n, self.leaps.0, self.machine.chip.registers).text(b"\n")
+        closing(
+            ended,
+            self.slices.0,
+            n,
+            self.leaps.0,
+            self.machine.chip.registers,
+        ).text(b"\n")
     }
 }
 

@@ -133,7 +133,10 @@ fn start(machine: Machine, case: &[u8]) -> Machine {
         waiting: false,
     };
     let bus = machine.chip.bus;
-    let chip = Chip { registers: registers, bus: bus };
+    let chip = Chip {
+        registers: registers,
+        bus: bus,
+    };
     Machine {
         chip: chip,
         irq1: true,

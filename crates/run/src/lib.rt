@@ -5,11 +5,11 @@ use boundary::Grown;
 use boundary::Progress;
 use boundary::State;
 use boundary::Stop;
+use chip::Chip;
 use counts::Cycles;
 use counts::Entries;
 use counts::Instructions;
 use counts::Leaps;
-use chip::Chip;
 use machine::Machine;
 use plain::Hop;
 use registers::Registers;
@@ -143,7 +143,10 @@ fn strode(s: State, c: Registers, cycles: Cycles, instructions: Instructions) ->
 {
     let m = s.machine;
     let bus = m.chip.bus.pass(cycles.0);
-    let chip = Chip { registers: c, bus: bus };
+    let chip = Chip {
+        registers: c,
+        bus: bus,
+    };
     let next = Machine {
         chip: chip,
         irq1: m.irq1,

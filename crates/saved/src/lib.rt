@@ -339,7 +339,10 @@ fn machine_in(bytes: &[u8]) -> Machine
 {
     let registers = registers_in(bytes);
     let bus = bus_in(bytes);
-    let chip = Chip { registers: registers, bus: bus };
+    let chip = Chip {
+        registers: registers,
+        bus: bus,
+    };
     Machine {
         chip: chip,
         irq1: bool_at(bytes, 13),
