@@ -28,12 +28,12 @@ toldCounts c = counts (c .cycles .0) (c .instructions .0) (c .entries .0) (c .us
 abbrev pub noCounts : Counts
 noCounts = counts 0 0 0 0 0
 
--- 40 bytes: at 0 the reply, at 4 cycles, at 8 instructions, at 12 interrupt entries ..
+-- the first 16 bytes: at 0 the reply, at 4 cycles, at 8 instructions, at 12 interrupt entries
 unfoldable pub headBytes : ℕ → Counts → List ℕ
 headBytes reply c =
     littleEndian 4 reply ++ littleEndian 4 (c .cycles) ++ littleEndian 4 (c .instructions) ++ littleEndian 4 (c .entries)
 
--- .. at 16 records used, at 24 bytes sent, at 32 a record's number
+-- 40 bytes: these, at 16 records used, at 24 bytes sent, at 32 a record's number
 unfoldable pub resultBytes : ℕ → ℕ → Counts → List ℕ
 resultBytes reply named c =
     headBytes reply c ++ littleEndian 8 (c .used) ++ littleEndian 8 (c .sent) ++ littleEndian 8 named

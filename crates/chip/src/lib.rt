@@ -366,7 +366,8 @@ impl Chip {
 
     // The opcode's fetch: below $20 its read may have an effect, above none.
     fn fetched(mut self, image: &[u8]) -> Chip
-        ensures { λ r. ⌜ r ≡ chipOf (withPc (self .registers) (up (self .registers .pc) 1)) (readOf (memories (now (image .entry))) (self .registers .pc) (self .bus) .next) ⌝ }
+        ensures { λ r. ⌜ r ≡ chipOf (withPc (self .registers) (up (self .registers .pc) 1))
+            (readOf (memories (now (image .entry))) (self .registers .pc) (self .bus) .next) ⌝ }
     {
         let pc = self.registers.pc;
         let registers = self.registers.with_pc(plus(pc, 1));
