@@ -24,7 +24,7 @@ use Rattle.boundary.specs.declared.Stop.the-variants.{Limit, Undefined, 
 use Rattle.boundary.specs.declared.Progress.{Progress}
 use Rattle.boundary.specs.declared.Progress.the-variants.{Going, Stopped}
 use Rattle.boundary.specs.declared.Turned.{Turned}
-use Rattle.boundary.specs.World.{Lent, memoriesIn, withMemories, withOutput, Terms, World, worldOf, Ended, endedOf, grown, grownTo}
+use Rattle.boundary.specs.World.{Lent, memoriesIn, withMemories, withOutput, Terms, World, worldOf, Ended, endedOf, byEntry, byWaiting, byInstructions, grownTo}
 
 -- Step 2: "Apply every unused record with time not above the count, in file order."
 unfoldable pub recordTaken : List ℕ → Memories → State → State
@@ -82,18 +82,18 @@ sentWorld w = worldOf (sentState (w .state)) (withOutput (w .lent) (sentOutput (
 unfoldable pub enteredWorld : Cause → World → World
 enteredWorld cause w =
     let r = enteredOf cause (memoriesIn (w .lent)) (w .state .machine) in
-    worldOf (grownTo (w .state) (r .machine) (grown (r .cycles) 0 1 0) false) (withMemories (w .lent) (r .memory))
+    worldOf (grownTo (w .state) (r .machine) (byEntry (r .cycles)) false) (withMemories (w .lent) (r .memory))
 
 -- Step 5: "Else if waiting: one cycle." It opens a leap unless the boundary before was a waiting cycle and no record and no sending stood between.
 unfoldable pub waitedState : State → State
-waitedState s = grownTo s (passedOf 1 (s .machine)) (grown 1 0 0 (cond (s .inside) 0 1)) true
+waitedState s = grownTo s (passedOf 1 (s .machine)) (byWaiting (cond (s .inside) 0 1)) true
 
 abbrev pub waitedWorld : World → World
 waitedWorld w = worldOf (waitedState (w .state)) (w .lent)
 
 -- Step 6: "Else fetch: undefined gives 8; otherwise execute."
 abbrev pub steppedWorld : Stepped → World → World
-steppedWorld r w = worldOf (grownTo (w .state) (r .machine) (grown (r .cycles) 1 0 0) false) (withMemories (w .lent) (r .memory))
+steppedWorld r w = worldOf (grownTo (w .state) (r .machine) (byInstructions (r .cycles) 1) false) (withMemories (w .lent) (r .memory))
 
 abbrev pub executedOf : Look → World → Turn World Ended
 executedOf looks.Undefined w = done (endedOf Undefined w)

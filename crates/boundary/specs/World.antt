@@ -66,6 +66,16 @@ grown cycles instructions entries leaps =
       leaps = record { 0 = leaps };
     }
 
+-- .. by an interrupt entry, by a waiting cycle that may open a leap, by instructions
+abbrev pub byEntry : ℕ → Grown
+byEntry cycles = grown cycles 0 1 0
+
+abbrev pub byWaiting : ℕ → Grown
+byWaiting leaps = grown 1 0 0 leaps
+
+abbrev pub byInstructions : ℕ → ℕ → Grown
+byInstructions cycles instructions = grown cycles instructions 0 0
+
 -- the machine is m, and the counts have grown
 abbrev pub grownTo : State → Machine → Grown → Bool → State
 grownTo s m by inside =

@@ -2,7 +2,6 @@
 use Prim.Native.Nat.{ℕ, _+_, _-_, _≤_, _<_}
 use native.Mathlib.Omega.{arith}
 use mathlib.Core.Bool.{Bool, true, false, not, _&&_, _||_, Bool·beq, true≢false}
-use mathlib.Core.List.{List}
 use mathlib.Core.Path.{_≡_, refl, sym, ap, subst, _∙_}
 use lib.Dec.{leb, eqb}
 use borrow.Author.Tests.{leb-false, ne-eqb}
@@ -13,7 +12,7 @@ use Rattle.serial.specs.Serial.{ticksSerial, serialRequest}
 use Rattle.registers.specs.declared.Registers.{Registers}
 use Rattle.registers.specs.Registers.{idles}
 use Rattle.bus.specs.declared.Bus.{Bus}
-use Rattle.bus.specs.Access.{Memories, memories}
+use Rattle.bus.specs.Access.{Memories}
 use Rattle.bus.specs.Units.{passed}
 use Rattle.bus.proofs.Ranges as bus
 use Rattle.chip.specs.Act.{out}
@@ -24,7 +23,7 @@ use Rattle.machine.specs.Interrupts.{pendingOf}
 use Rattle.machine.specs.Steps.{Stepped}
 use Rattle.plain.specs.Plainly.{Steps, Hopped}
 use Rattle.boundary.specs.declared.State.{State}
-use Rattle.boundary.specs.World.{lent, memoriesIn, Terms, worldOf, grown, grownTo}
+use Rattle.boundary.specs.World.{Lent, memoriesIn, withMemories, Terms, worldOf, grown, grownTo}
 use Rattle.boundary.specs.Boundary.{sendOf, steppedWorld, executedOf, boundaryOf}
 use Rattle.boundary.specs.Counts.{Fine, Fits}
 use Rattle.boundary.proofs.Feeding.{records-done}
@@ -64,23 +63,23 @@ strode-more s c d j i k =
 
 module _ (t : Terms) (s : State) where
   -- as long as nothing stirs, a boundary is the next instruction
-  pub stride-turn : (c d : Registers) (j i k : ℕ) (image after o : List ℕ) → s .cycles .0 + j < t .limit → stirs t s j ≡ false
+  pub stride-turn : (c d : Registers) (j i k : ℕ) (memory after : Memories) (l : Lent) → s .cycles .0 + j < t .limit → stirs t s j ≡ false
       → idles c ≡ false → c .codes .i ≡ s .machine .chip .registers .codes .i
-      → Steps (memories image) (strodeOf s c j i .machine) k (out d (passed j (s .machine .chip .bus)) (memories after))
-      → boundaryOf t (worldOf (strodeOf s c j i) (lent image o)) ≡ more (worldOf (strodeOf s d (j + k) (i + 1)) (lent after o))
+      → Steps memory (strodeOf s c j i .machine) k (out d (passed j (s .machine .chip .bus)) after)
+      → boundaryOf t (worldOf (strodeOf s c j i) (withMemories l memory)) ≡ more (worldOf (strodeOf s d (j + k) (i + 1)) (withMemories l after))
   unfolding passed
-  stride-turn c d j i k image after o b still awake masked e =
+  stride-turn c d j i k memory after l b still awake masked e =
       let r = strodeOf s c j i in
-      let l = lent image o in
+      let here = withMemories l memory in
       let q = neither _ _ still in
       let p = neither _ _ (q .0) in
-      below-limit r l t b
-      ∙ ap (λ (x : State). sendOf (worldOf x l)) (records-done (t .session) (memoriesIn l) r (p .0))
-      ∙ send-rests r l (p .1)
-      ∙ act-steps r l (not-due _ (alike-due j (s .machine) c masked ∙ q .1)) awake
-      ∙ ap (λ (z : Look). executedOf z (worldOf r l)) (e .stands)
-      ∙ ap (λ (z : Stepped). more (steppedWorld z (worldOf r l))) (e .steps)
-      ∙ ap (λ (x : State). more (worldOf x (lent after o))) (strode-more s c d j i k)
+      below-limit r here t b
+      ∙ ap (λ (x : State). sendOf (worldOf x here)) (records-done (t .session) (memoriesIn here) r (p .0))
+      ∙ send-rests r here (p .1)
+      ∙ act-steps r here (not-due _ (alike-due j (s .machine) c masked ∙ q .1)) awake
+      ∙ ap (λ (z : Look). executedOf z (worldOf r here)) (e .stands)
+      ∙ ap (λ (z : Stepped). more (steppedWorld z (worldOf r here))) (e .steps)
+      ∙ ap (λ (x : State). more (worldOf x (withMemories l after))) (strode-more s c d j i k)
 
 -- two bools that are not unlike
 alike : (a b : Bool) → not (Bool·beq a b) ≡ false → a ≡ b
@@ -98,35 +97,31 @@ below-room room cycles a b on = leb-false room cycles (neither (leb room cycles)
 
 module _ (t : Terms) (s : State) where
   -- one turn of the stride
-  pub strides : (room : ℕ) (c e : Registers) (j i k : ℕ) (image₀ image after : List ℕ) {idle : Bool}
+  pub strides : (room : ℕ) (c e : Registers) (j i k : ℕ) (start memory after : Memories) {idle : Bool}
       → First (t .limit - s .cycles .0) room (stirs t s)
       → idle ≡ idles c → ends room j idle (c .codes .i) (s .machine .chip .registers .codes .i) ≡ false
-      → Hopped (s .machine .chip .bus .r) c (memories image) k e (memories after)
-      → Goes t s image₀ (strodeOf s c j i) image → Goes t s image₀ (strodeOf s e (j + k) (i + 1)) after
+      → Hopped (s .machine .chip .bus .r) c memory k e after
+      → Goes t s start (strodeOf s c j i) memory → Goes t s start (strodeOf s e (j + k) (i + 1)) after
   unfolding passed
-  strides room c e j i k image₀ image after {idle} first told on hopped goes o =
+  strides room c e j i k start memory after {idle} first told on hopped goes l =
       let q = neither (leb room j || idle) _ on in
       let p = neither (leb room j) _ (q .0) in
-      let l = below-room room j _ _ on in
+      let b = below-room room j _ _ on in
       let w = first .within in
-      goes o
+      goes l
       ∙ run-more t _
-      (stride-turn t s c e j i k image after o (omega arith) (first .before j l) (sym told ∙ p .1) (alike _ _ (q .1))
+      (stride-turn t s c e j i k memory after l (omega arith) (first .before j b) (sym told ∙ p .1) (alike _ _ (q .1))
       (hopped .hops (passed j (s .machine .chip .bus)) (s .machine .irq1) (s .machine .nmi) refl))
 
-  pub stride-ends : (c : Registers) (j i : ℕ) (image₀ image after : List ℕ) {r : State} → Fine s → i ≤ j
-      → Goes t s image₀ (strodeOf s c j i) image → after ≡ image → r ≡ strodeOf s c j i → Paced t s image₀ r after
-  stride-ends c j i image₀ image after f l goes e q =
+  pub stride-ends : (c : Registers) (j i : ℕ) (start memory after : Memories) {r : State} → Fine s → i ≤ j
+      → Goes t s start (strodeOf s c j i) memory → after ≡ memory → r ≡ strodeOf s c j i → Paced t s start r after
+  stride-ends c j i start memory after f l goes e q =
       let x = f .instructions in
       let y = f .entries in
       let z = f .leaps in
-      subst (λ (v : State). Paced t s image₀ v after) (sym q)
-      (subst (λ (v : List ℕ). Paced t s image₀ (strodeOf s c j i) v) (sym e)
+      subst (λ (v : State). Paced t s start v after) (sym q)
+      (subst (λ (v : Memories). Paced t s start (strodeOf s c j i) v) (sym e)
       (record { instructions = omega arith; entries = omega arith; leaps = omega arith; used = f .used }, omega arith, goes))
-
--- a step that was left has left the image
-pub left-image : {image after : List ℕ} → memories after ≡ memories image → after ≡ image
-left-image e = ap (λ (m : Memories). m .image) e
 
 -- the stride's cycles are within the limit but for its last instruction, so no count can pass its type
 pub stride-fits : {s : State} {n room j i : ℕ} → Fine s → s .cycles .0 < n → n ≤ 1000000000 → room ≤ n - s .cycles .0 → i ≤ j → j ≤ room + 12

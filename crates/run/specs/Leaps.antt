@@ -2,12 +2,12 @@
 -- the same.
 use Prim.Native.Nat.{ℕ, _+_, _≤_, _<_}
 use mathlib.Core.Bool.{Bool, true, false, _||_, _&&_}
-use mathlib.Core.List.{List}
 use mathlib.Core.Logic.{_⊎_}
 use mathlib.Core.Path.{_≡_}
 use lib.Dec.{leb, eqb}
 use Rattle.session.specs.Session.{dueAt}
 use Rattle.serial.specs.Serial.{wantsToSend, ticksSerial}
+use Rattle.bus.specs.Access.{Memories}
 use Rattle.bus.specs.Units.{passed}
 use Rattle.registers.specs.declared.Registers.{Registers}
 use Rattle.registers.specs.Registers.{idles}
@@ -16,7 +16,7 @@ use Rattle.machine.specs.declared.Pending.the-variants.{Nothing, Due}
 use Rattle.machine.specs.Machine.{onChip, passedOf}
 use Rattle.machine.specs.Interrupts.{pendingOf}
 use Rattle.boundary.specs.declared.State.{State}
-use Rattle.boundary.specs.World.{Lent, lent, Terms, worldOf, grown, grownTo}
+use Rattle.boundary.specs.World.{Lent, withMemories, Terms, worldOf, byInstructions, grownTo}
 use Rattle.boundary.specs.Boundary.{due, sendsOf, runOf}
 use Rattle.boundary.specs.Counts.{Fine}
 
@@ -51,12 +51,12 @@ Leapt t s r =
 abbrev pub strodeOf : State → Registers → ℕ → ℕ → State
 strodeOf s c cycles instructions =
     grownTo s (onChip (s .machine) c (passed cycles (s .machine .chip .bus)))
-    (grown cycles instructions 0 0)
+    (byInstructions cycles instructions)
     (s .inside && eqb instructions 0)
 
--- the run goes on the same from r and the image `after`
-abbrev pub Goes : Terms → State → List ℕ → State → List ℕ → Type 0
-Goes t s image r after = (o : List ℕ) → runOf t (worldOf s (lent image o)) ≡ runOf t (worldOf r (lent after o))
+-- the run goes on the same from r and the memories `after`, whatever else was lent
+abbrev pub Goes : Terms → State → Memories → State → Memories → Type 0
+Goes t s memory r after = (l : Lent) → runOf t (worldOf s (withMemories l memory)) ≡ runOf t (worldOf r (withMemories l after))
 
-abbrev pub Paced : Terms → State → List ℕ → State → List ℕ → Type 0
-Paced t s image r after = Fine r × (s .cycles .0 ≤ r .cycles .0) × Goes t s image r after
+abbrev pub Paced : Terms → State → Memories → State → Memories → Type 0
+Paced t s memory r after = Fine r × (s .cycles .0 ≤ r .cycles .0) × Goes t s memory r after

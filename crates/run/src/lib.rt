@@ -22,6 +22,7 @@ ghost use Prim.Native.Nat.{_+_, _-_, _≤_};
 ghost use Rattle.session.specs.Session.{dueAt};
 ghost use Rattle.serial.specs.Serial.{wantsToSend, ticksSerial};
 ghost use Rattle.timer.specs.Timer.{ticks};
+ghost use Rattle.bus.specs.Access.{memories};
 ghost use Rattle.machine.specs.Machine.{passedOf};
 ghost use Rattle.machine.specs.Interrupts.{pendingOf};
 ghost use Rattle.boundary.specs.World.{lent, terms, worldOf, endedOf, grown};
@@ -42,17 +43,17 @@ fn least(a: u32, b: u32) -> u32
 }
 
 // Cycles until a record is due, at most `most`.
-fn record_room(most: u32, session: &[u8], count: u32, at: usize) -> u32
-    ensures { λ r. ⌜ First most r (λ j. dueAt (now (session .entry)) (count + j) at) ⌝ }
+fn record_room(most: u32, session: &[u8], count: Cycles, at: usize) -> u32
+    ensures { λ r. ⌜ First most r (λ j. dueAt (now (session .entry)) (count .0 + j) at) ⌝ }
 {
     if session.len() <= at {
         return most;
     }
     let time = session::time_at(session, at);
-    if time <= count {
+    if time <= count.0 {
         return 0;
     }
-    least(most, time - count)
+    least(most, time - count.0)
 }
 
 // Cycles until a byte is to be sent, at most `most`.
@@ -109,7 +110,7 @@ fn room(session: &[u8], n: u32, s: State) -> u32
     ensures { λ r. ⌜ First (n - s .cycles .0) r (stirs (terms (now (session .entry)) n) s) ⌝ }
 {
     let m = s.machine;
-    let a = record_room(n - s.cycles.0, session, s.cycles.0, s.place);
+    let a = record_room(n - s.cycles.0, session, s.cycles, s.place);
     let b = send_room(a, m.chip.bus.serial);
     interrupt_room(b, m)
 }
@@ -165,7 +166,7 @@ fn strode(s: State, c: Registers, cycles: Cycles, instructions: Instructions) ->
 // Plain instructions one after the other, as long as nothing else stirs: the run goes on the same, from where they end.
 fn stride(session: &[u8], n: u32, s: State, image: &mut [u8]) -> State
     requires { ⌜ Fine s × (n ≤ 1000000000) ⌝ }
-    ensures { λ r. ⌜ Paced (terms (now (session .entry)) n) s (now (image .entry)) r (now (image .exit)) ⌝ }
+    ensures { λ r. ⌜ Paced (terms (now (session .entry)) n) s (memories (now (image .entry))) r (memories (now (image .exit))) ⌝ }
 {
     if n <= s.cycles.0 {
         return s;
@@ -198,7 +199,7 @@ fn stride(session: &[u8], n: u32, s: State, image: &mut [u8]) -> State
 // What either run does between two boundaries.
 fn pace(leaping: bool, session: &[u8], n: u32, s: State, image: &mut [u8]) -> State
     requires { ⌜ Fine s × (n ≤ 1000000000) ⌝ }
-    ensures { λ r. ⌜ Paced (terms (now (session .entry)) n) s (now (image .entry)) r (now (image .exit)) ⌝ }
+    ensures { λ r. ⌜ Paced (terms (now (session .entry)) n) s (memories (now (image .entry))) r (memories (now (image .exit))) ⌝ }
 {
     if s.machine.chip.registers.idles() {
         if leaping {
