@@ -10,8 +10,7 @@ use lib.Dec.{leb}
 use lib.ListN.{length, length-append}
 use borrow.Author.Tests.{le-leb, lt-leb, leb-true, leb-false}
 use Rattle.turns.specs.Turn.{Turn, more, done}
-use Rattle.turns.specs.Beside.{Both}
-use Rattle.turns.proofs.Beside.{loop-beside}
+use Rattle.turns.proofs.Beside.{Both, loop-beside}
 use Rattle.laws.proofs.Lists.{set-append-add}
 use Rattle.laws.proofs.Orders.{leb-shifted}
 use Rattle.bus.specs.Access.{Memories}
