@@ -11,7 +11,7 @@ use Rattle.operations.specs.declared.Target.the-variants.{In, Memory}
 use Rattle.operations.specs.declared.Shape.{Shape}
 use Rattle.operations.specs.Shapes.{targetOf, monadicShape, tstShape, shapeOf}
 use Rattle.operations.specs.Operations.{quietOf, loadAt, loadedOf, loadWordAt, loadedWordOf}
-use Rattle.operations.specs.Operations.{storeAt, byteOf, storedThen, storedWordThen, wordOf, pushedThen}
+use Rattle.operations.specs.Operations.{storeAt, storeByte, storedThen, storedWordThen, wordOf, pushedThen}
 use Rattle.bus.specs.declared.Bus.{Bus}
 use Rattle.bus.specs.Access.{Memories}
 use Rattle.chip.specs.Act.{Act, read, write, _>>=_, Out, run}
@@ -30,7 +30,7 @@ tst-shaped (In acc) at c = refl
 tst-shaped Memory at c = refl
 
 pub operation-shaped : (op : Operation) (place : Place) (at : ℕ) (c : Registers) → operate op place at c ≡ shaped (shapeOf op place) at c
-unfolding operate shapeOf shaped quietOf loads loadAt loadedOf loadsWord loadWordAt loadedWordOf stores storeAt byteOf storedThen storesWord
+unfolding operate shapeOf shaped quietOf loads loadAt loadedOf loadsWord loadWordAt loadedWordOf stores storeAt storeByte storedThen storesWord
     storedWordThen pushesWord wordOf pushedThen dyadic sta wide wideStore push push2 pull pull2 psh pul pshx pulx jsr rts read2 read write _>>=_
 operation-shaped (operations.Internal op) place at c = refl
 operation-shaped (operations.Dyadic op acc) place at c = refl

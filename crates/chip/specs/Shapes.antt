@@ -13,7 +13,7 @@ use Rattle.operations.specs.declared.Pushing.{Pushing}
 use Rattle.operations.specs.declared.Shape.{Shape}
 use Rattle.operations.specs.declared.Shape.the-variants.{Nothing, Load, LoadWord, Store, StoreWord, Modify, PushWord, Rti, Swi, Wai}
 use Rattle.operations.specs.Operations.{quietOf, loadAt, loadedOf, loadWordAt, loadedWordOf}
-use Rattle.operations.specs.Operations.{storeAt, byteOf, storedThen, storedWordThen, wordOf, pushedThen}
+use Rattle.operations.specs.Operations.{storeAt, storeByte, storedThen, storedWordThen, wordOf, pushedThen}
 use Rattle.chip.specs.Act.{Act, Act.done, read, write, _>>=_, _>>_}
 use Rattle.chip.specs.Instructions.{read2, write2, push2, rti, swi, wai}
 
@@ -29,7 +29,7 @@ loadsWord op at c = do
 
 unfoldable pub stores : Storing → ℕ → Registers → Act Registers
 stores op at c = do
-  write (storeAt op at c) (byteOf op c)
+  write (storeAt op at c) (storeByte op c)
   done (storedThen op c)
 
 unfoldable pub storesWord : WideStore → ℕ → Registers → Act Registers

@@ -8,6 +8,7 @@ use lib.Dec.{leb}
 use lib.ListN.{length}
 use borrow.Author.Tests.{leb-true, leb-false}
 use Rattle.turns.specs.Turn.{Turn, more, done, Then}
+use Rattle.laws.proofs.Apart.{apart}
 use Rattle.laws.proofs.Conds.{cases}
 use Rattle.boundary.specs.declared.Stop.the-variants.{Limit, Undefined, Full}
 use Rattle.boundary.specs.World.{World, Ended, terms}
@@ -20,10 +21,10 @@ abbrev Other : Ended → Type 0
 Other e = e .stop ≡ Limit → ⊥
 
 not-undefined : Undefined ≡ Limit → ⊥
-not-undefined e = let z : _≡_ {A = ℕ} 0 1 = cc in omega arith
+not-undefined e = apart cc
 
 not-full : Full ≡ Limit → ⊥
-not-full e = let z : _≡_ {A = ℕ} 0 1 = cc in omega arith
+not-full e = apart cc
 
 abbrev OtherThen : Turn World Ended → Type 0
 OtherThen = Then (λ (v : World). Unit {0}) Other

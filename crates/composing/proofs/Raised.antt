@@ -10,8 +10,8 @@ use lib.Dec.{leb}
 use lib.ListN.{length, length-append}
 use borrow.Author.Tests.{le-leb, lt-leb, leb-true, leb-false}
 use Rattle.turns.specs.Turn.{Turn, more, done}
-use Rattle.turns.specs.Beside.{Both}
-use Rattle.turns.proofs.Beside.{loop-beside}
+use Rattle.turns.proofs.Beside.{Both, loop-beside}
+use Rattle.laws.proofs.Apart.{apart}
 use Rattle.laws.proofs.Lists.{set-append-add}
 use Rattle.laws.proofs.Orders.{leb-shifted}
 use Rattle.bus.specs.Access.{Memories}
@@ -97,8 +97,8 @@ apart-waits before leaps false leaps′ false a = let l = a .low in let h = a .h
 both-cond : {A B : Type 0} (P : A → B → Type 0) (b b′ : Bool) {x y : A} {x′ y′ : B} → b ≡ b′
     → (b′ ≡ true → P x x′) → (b′ ≡ false → P y y′) → P (cond b x y) (cond b′ x′ y′)
 both-cond P true true e p q = p refl
-both-cond P true false e p q = absurd (let z : _≡_ {A = ℕ} 0 1 = cc in let w : ⊥ = omega arith in w)
-both-cond P false true e p q = absurd (let z : _≡_ {A = ℕ} 0 1 = cc in let w : ⊥ = omega arith in w)
+both-cond P true false e p q = apart cc
+both-cond P false true e p q = apart cc
 both-cond P false false e p q = q refl
 
 module _ (d : Past) where

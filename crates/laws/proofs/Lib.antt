@@ -1,3 +1,4 @@
+pub mod Apart
 pub mod Bools
 pub mod Conds
 pub mod Known

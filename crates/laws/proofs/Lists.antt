@@ -1,21 +1,11 @@
 -- Laws of lists: values stored one after another, a store past a front, and all that follows a place. Assumes nothing.
-use Prim.Native.Nat.{ℕ, suc, _+_, _-_, _≤_, _<_}
+use Prim.Native.Nat.{ℕ, suc, _+_, _-_, _≤_}
 use native.Mathlib.Nat.{zero-add, suc-add, add-zero, add-suc, le-of-eq}
-use native.Mathlib.Numerals.{add-one}
 use native.Mathlib.Omega.{arith}
 use mathlib.Core.List.{List, [], _∷_, _++_}
 use mathlib.Core.Path.{_≡_, sym, ap, _∙_}
-use lib.ListN.{length, getD, set, take, drop, drop-of-length-le, length-append, length-drop}
-use lib.Seq.{drop-cons, sets, sets-eq, take-all, take-at, drop-at, length-take-le}
-
--- one more of the values that are stored from a place on
-pub sets-more : (bytes b : List ℕ) (to i : ℕ) → i < length bytes
-    → sets b to (drop i bytes) ≡ sets (set b to (getD bytes i 0)) (to + 1) (drop (i + 1) bytes)
-sets-more bytes b to i h = rw (add-one, add-one, drop-cons bytes i 0)
-
--- and none where all are stored
-pub sets-all : (bytes b : List ℕ) (to i : ℕ) → length bytes ≤ i → sets b to (drop i bytes) ≡ b
-sets-all bytes b to i h = ap (λ (l : List ℕ). sets b to l) (drop-of-length-le bytes h)
+use lib.ListN.{length, set, take, drop, length-append, length-drop}
+use lib.Seq.{sets, sets-eq, take-all, take-at, drop-at, length-take-le}
 
 -- some values and then others
 pub sets-append : (b : List ℕ) (to : ℕ) (u v : List ℕ) → sets (sets b to u) (to + length u) v ≡ sets b to (u ++ v)

@@ -1,8 +1,7 @@
 -- Something is not nothing. Assumes nothing.
-use Prim.Native.Nat.{ℕ}
-use native.Mathlib.Omega.{arith}
 use mathlib.Core.Option.{Option, none, some}
 use mathlib.Core.Path.{_≡_}
+use Rattle.laws.proofs.Apart.{apart}
 
 pub some-none : {A R : Type 0} {a : A} → some a ≡ none → R
-some-none e = let z : _≡_ {A = ℕ} 0 1 = cc in absurd (let w : ⊥ = omega arith in w)
+some-none e = apart cc

@@ -1,15 +1,14 @@
 -- The pending cause is the first in 01's order whose condition holds; none is pending where none holds. Assumes nothing.
-use Prim.Native.Nat.{ℕ}
-use native.Mathlib.Omega.{arith}
 use mathlib.Core.Path.{_≡_, refl, ap, _∙_}
 use mathlib.Core.Bool.{Bool, true, false, cond}
 use mathlib.Core.Logic.{_↔_}
 use mathlib.Core.List.{List, [], _∷_, _++_}
+use Rattle.laws.proofs.Apart.{apart}
 use Rattle.machine.specs.declared.Machine.{Machine}
 use Rattle.machine.specs.declared.Cause.{Cause}
 use Rattle.machine.specs.declared.Pending.{Pending}
 use Rattle.machine.specs.declared.Pending.the-variants.{Nothing, Due}
-use Rattle.machine.specs.Interrupts.{holds, causes, firstOf, pendingOf}
+use Rattle.machine.specs.Interrupts.{holds, causes, firstCause, pendingOf}
 
 -- none of some causes holds
 abbrev pub None : List Cause → Machine → Type 0
@@ -24,11 +23,11 @@ pub record First (ks : List Cause) (k : Cause) (m : Machine) : Type 0 where
   pub here : holds k m ≡ true
   pub before : None earlier m
 
-due : (ks : List Cause) (m : Machine) (k : Cause) → firstOf ks m ≡ Due k → First ks k m
-due [] m k e = let z : _≡_ {A = ℕ} 0 1 = cc in absurd (let f : ⊥ = omega arith in f)
+due : (ks : List Cause) (m : Machine) (k : Cause) → firstCause ks m ≡ Due k → First ks k m
+due [] m k e = apart cc
 due (j ∷ ks) m k e = by (due ks m k) (holds j m) refl e
   where
-    by : (firstOf ks m ≡ Due k → First ks k m) → (h : Bool) → holds j m ≡ h → cond h (Due j) (firstOf ks m) ≡ Due k → First (j ∷ ks) k m
+    by : (firstCause ks m ≡ Due k → First ks k m) → (h : Bool) → holds j m ≡ h → cond h (Due j) (firstCause ks m) ≡ Due k → First (j ∷ ks) k m
     by rest true h d =
         let s : j ≡ k = cc in
         record { earlier = []; later = ks; order = rw s; here = rw s at h; before = tt }
@@ -37,26 +36,26 @@ due (j ∷ ks) m k e = by (due ks m k) (holds j m) refl e
         record { earlier = j ∷ f .earlier; later = f .later; order = ap (j ∷_) (f .order); here = f .here; before = (h, f .before) }
 
 found : (m : Machine) (k : Cause) (earlier later : List Cause) → holds k m ≡ true → None earlier m
-    → firstOf (earlier ++ (k ∷ later)) m ≡ Due k
+    → firstCause (earlier ++ (k ∷ later)) m ≡ Due k
 found m k [] later h n = rw h
 found m k (j ∷ earlier) later h n = rw (n .0) (found m k earlier later h (n .1))
 
-nothing : (ks : List Cause) (m : Machine) → firstOf ks m ≡ Nothing → None ks m
+nothing : (ks : List Cause) (m : Machine) → firstCause ks m ≡ Nothing → None ks m
 nothing [] m e = tt
 nothing (k ∷ ks) m e = by (nothing ks m) (holds k m) refl e
   where
-    by : (firstOf ks m ≡ Nothing → None ks m) → (h : Bool) → holds k m ≡ h → cond h (Due k) (firstOf ks m) ≡ Nothing → None (k ∷ ks) m
-    by rest true h d = let z : _≡_ {A = ℕ} 0 1 = cc in absurd (let f : ⊥ = omega arith in f)
+    by : (firstCause ks m ≡ Nothing → None ks m) → (h : Bool) → holds k m ≡ h → cond h (Due k) (firstCause ks m) ≡ Nothing → None (k ∷ ks) m
+    by rest true h d = apart cc
     by rest false h d = (h, rest d)
 
-quiet : (ks : List Cause) (m : Machine) → None ks m → firstOf ks m ≡ Nothing
+quiet : (ks : List Cause) (m : Machine) → None ks m → firstCause ks m ≡ Nothing
 quiet [] m n = refl
 quiet (k ∷ ks) m n = rw (n .0) (quiet ks m (n .1))
 
 pub pending-first : (m : Machine) (k : Cause) → (pendingOf m ≡ Due k) ↔ First causes k m
 unfolding pendingOf
 pending-first m k =
-    (due causes m k, λ f. ap (λ (ks : List Cause). firstOf ks m) (f .order) ∙ found m k (f .earlier) (f .later) (f .here) (f .before))
+    (due causes m k, λ f. ap (λ (ks : List Cause). firstCause ks m) (f .order) ∙ found m k (f .earlier) (f .later) (f .here) (f .before))
 
 pub pending-none : (m : Machine) → (pendingOf m ≡ Nothing) ↔ None causes m
 unfolding pendingOf

@@ -39,12 +39,19 @@ abbrev told : (Stepped → List ℕ) → Look → Memories → Machine → List 
 told f (Runs i) memory m = f (stepOf i memory m)
 told f Undefined memory m = []
 
--- one step of the code at $0004 with A, B and X given, all codes clear
-abbrev stepped : (Stepped → List ℕ) → ℕ → ℕ → ℕ → List ℕ → List ℕ
-stepped f a b x code =
+-- one step of the code at $0004 with the byte of the codes, A, B and X given
+abbrev stepped : (Stepped → List ℕ) → ℕ → ℕ → ℕ → ℕ → List ℕ → List ℕ
+stepped f before a b x code =
     let memory = memories (0 ∷ 0 ∷ 0 ∷ 0 ∷ code) in
-    let m = onChip start (record { a = a; b = b; x = x; sp = 0; pc = 4; codes = codesOf 0xC0; waiting = false }) (start .chip .bus) in
+    let m = onChip start (record { a = a; b = b; x = x; sp = 0; pc = 4; codes = codesOf before; waiting = false }) (start .chip .bus) in
     told f (lookOf memory m) memory m
+
+-- The codes before: what is to set a code starts with all clear, what is to clear one with all set. DAA's "H and C 0" is 0xDE.
+abbrev clear : ℕ
+clear = 0xC0
+
+abbrev set : ℕ
+set = 0xFF
 
 -- what a step leaves
 abbrev registers : Stepped → Registers
@@ -100,18 +107,19 @@ two f s = f s ∷ codes s ∷ []
 
 abbrev pub table : List Row
 table =
-    (stepped (two double) 0xFF 0xFF 0 (0x3D ∷ []) is 0xFE01 ∷ 0xC0 ∷ [])  -- MUL FF by FF gives FE01, C 0
-    ∷ (stepped (two accumulatorA) 0x9A 0 0 (0x19 ∷ []) is 0x00 ∷ 0xC5 ∷ [])  -- DAA of 9A, H and C 0, gives 00, C and Z 1
-    ∷ (stepped (two accumulatorA) 0x80 0 0 (0x40 ∷ []) is 0x80 ∷ 0xCB ∷ [])  -- NEGA 80 gives 80, V and C 1
-    ∷ (stepped (two accumulatorA) 0x00 0 0 (0x40 ∷ []) is 0x00 ∷ 0xC4 ∷ [])  -- NEGA 00, C 0
-    ∷ (stepped (two accumulatorA) 0x7F 0 0 (0x4C ∷ []) is 0x80 ∷ 0xCA ∷ [])  -- INCA 7F gives 80, V 1
-    ∷ (stepped (one codes) 0 0 0x8000 (0x8C ∷ 0x00 ∷ 0x01 ∷ []) is 0xC2 ∷ [])  -- CPX 8000 against 0001: V 1, C 0, N 0
-    ∷ (stepped (one (λ s. registers s .x)) 0 0x20 0xFFF0 (0x3A ∷ []) is 0x0010 ∷ [])  -- ABX FFF0 with B 20 gives 0010
-    ∷ (stepped (one (λ s. registers s .sp)) 0 0 0 (0x35 ∷ []) is 0xFFFF ∷ [])  -- TXS with X 0 gives FFFF
+    (stepped (two double) set 0xFF 0xFF 0 (0x3D ∷ []) is 0xFE01 ∷ 0xFE ∷ [])  -- MUL FF by FF gives FE01, C 0
+    ∷ (stepped (two accumulatorA) 0xDE 0x9A 0 0 (0x19 ∷ []) is 0x00 ∷ 0xD5 ∷ [])  -- DAA of 9A, H and C 0, gives 00, C and Z 1
+    ∷ (stepped (two accumulatorA) clear 0x80 0 0 (0x40 ∷ []) is 0x80 ∷ 0xCB ∷ [])  -- NEGA 80 gives 80, V and C 1
+    ∷ (stepped (two accumulatorA) set 0x00 0 0 (0x40 ∷ []) is 0x00 ∷ 0xF4 ∷ [])  -- NEGA 00, C 0
+    ∷ (stepped (two accumulatorA) clear 0x7F 0 0 (0x4C ∷ []) is 0x80 ∷ 0xCA ∷ [])  -- INCA 7F gives 80, V 1
+    ∷ (stepped (one codes) clear 0 0 0x8000 (0x8C ∷ 0x00 ∷ 0x01 ∷ []) is 0xC2 ∷ [])  -- CPX 8000 against 0001: V 1,
+    ∷ (stepped (one codes) set 0 0 0x8000 (0x8C ∷ 0x00 ∷ 0x01 ∷ []) is 0xF2 ∷ [])  -- .. C 0, N 0
+    ∷ (stepped (one (λ s. registers s .x)) clear 0 0x20 0xFFF0 (0x3A ∷ []) is 0x0010 ∷ [])  -- ABX FFF0 with B 20 gives 0010
+    ∷ (stepped (one (λ s. registers s .sp)) clear 0 0 0 (0x35 ∷ []) is 0xFFFF ∷ [])  -- TXS with X 0 gives FFFF
     ∷ (counted 0xFFFC 0 3 is 0xFFFF ∷ 0x20 ∷ [])  -- Counter FFFC after 3 cycles sets TOF
     ∷ (counted 0xFFFF 0x0100 3 is 0x0002 ∷ 0x00 ∷ [])  -- FFFF after 3 cycles is 0002, TOF not set
     ∷ (counted 0x0010 0x0010 2 is 0x0012 ∷ 0x00 ∷ [])  -- Counter and compare both 0010, 2 cycles: no OCF
-    ∷ (stepped (one (λ s. s .machine .chip .bus .timer .counter)) 0 0 0 (0x97 ∷ 0x09 ∷ []) is 0xFFFB ∷ [])  -- STAA $09: counter FFFB afterwards
+    ∷ (stepped (one (λ s. s .machine .chip .bus .timer .counter)) clear 0 0 0 (0x97 ∷ 0x09 ∷ []) is 0xFFFB ∷ [])  -- STAA $09: counter FFFB afterwards
     ∷ (stored (appliedOf (Received 0x42 true) (memories []) (appliedOf (Received 0x41 true) (memories []) receiving)) is 0x41 ∷ 0xE8 ∷ [])  -- bytes 41, 42: stored 41, TRCS E8
     ∷ (stored (appliedOf (Received 0x41 false) (memories []) receiving) is 0x00 ∷ 0x68 ∷ [])  -- a bad stop alone: 68
     ∷ (readOf (memories []) 0x03 (start .chip .bus) .value ∷ [] is 0x5A ∷ [])  -- Power-on read of $03: 5A

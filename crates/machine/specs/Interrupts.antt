@@ -25,12 +25,12 @@ abbrev pub causes : List Cause
 causes = Nmi ∷ Irq1 ∷ Icf ∷ Ocf ∷ Tof ∷ Serial ∷ []
 
 -- the first of some causes that holds
-abbrev pub firstOf : List Cause → Machine → Pending
-firstOf [] m = Nothing
-firstOf (k ∷ ks) m = cond (holds k m) (Due k) (firstOf ks m)
+abbrev pub firstCause : List Cause → Machine → Pending
+firstCause [] m = Nothing
+firstCause (k ∷ ks) m = cond (holds k m) (Due k) (firstCause ks m)
 
 unfoldable pub pendingOf : Machine → Pending
-pendingOf m = firstOf causes m
+pendingOf m = firstCause causes m
 
 abbrev pub vectorFor : Cause → Vector
 vectorFor Nmi = vectors.Nmi

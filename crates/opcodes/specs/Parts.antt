@@ -1,5 +1,5 @@
 -- What the private functions of src are proved against: the rows of Opcodes.antt taken apart, into their operations and their
--- cycles, 0 for an opcode that is undefined. Nobody needs to believe this file: `decode` promises the table of Opcodes.antt.
+-- cycles. Nobody needs to believe this file: `decode` promises the table of Opcodes.antt.
 use Prim.Native.Nat.{ℕ, _+_, _%_, _^_}
 use mathlib.Core.List.{List, [], _∷_}
 use mathlib.Core.Bool.{cond}
@@ -8,9 +8,6 @@ use lib.ListN.{getD}
 use Rattle.opcodes.specs.Opcodes.{is, row8, rowC}
 use Rattle.opcodes.specs.declared.Accumulator.{Accumulator}
 use Rattle.opcodes.specs.declared.Accumulator.the-variants.{A, B}
-use Rattle.opcodes.specs.declared.Internal.{Internal as InternalOperation}
-use Rattle.opcodes.specs.declared.Internal.the-variants.{Nop, Lsrd, Asld, Tap, Tpa, Inx, Dex, Clv, Sev, Clc, Sec, Cli, Sei}
-use Rattle.opcodes.specs.declared.Internal.the-variants.{Sba, Cba, Tab, Tba, Daa, Aba, Tsx, Ins, Des, Txs, Abx, Mul}
 use Rattle.opcodes.specs.declared.Branch.{Branch as BranchTest}
 use Rattle.opcodes.specs.declared.Branch.the-variants.{Bra, Brn, Bhi, Bls, Bcc, Bcs, Bne, Beq, Bvc, Bvs, Bpl, Bmi, Bge, Blt, Bgt, Ble}
 use Rattle.opcodes.specs.declared.Monadic.{Monadic as MonadicOperation}
@@ -20,30 +17,13 @@ use Rattle.opcodes.specs.declared.Dyadic.the-variants.{Sub, Cmp, Sbc, An
 use Rattle.opcodes.specs.declared.Wide.the-variants.{Subd, Addd, Cpx, Ldd, Lds, Ldx}
 use Rattle.opcodes.specs.declared.WideStore.the-variants.{Std, Sts, Stx}
 use Rattle.opcodes.specs.declared.Operation.{Operation}
-use Rattle.opcodes.specs.declared.Operation.the-variants.{Internal, Dyadic, Monadic, Tst, Sta, Wide, WideStore, Psh, Pul, Pshx, Pulx}
-use Rattle.opcodes.specs.declared.Operation.the-variants.{Jmp, Jsr, Rts, Rti, Swi, Wai}
+use Rattle.opcodes.specs.declared.Operation.the-variants.{Dyadic, Monadic, Tst, Sta, Wide, WideStore, Jmp, Jsr}
 use Rattle.opcodes.specs.declared.Place.{Place}
 use Rattle.opcodes.specs.declared.Decoded.{Decoded}
 use Rattle.opcodes.specs.declared.Decoded.the-variants.{Undefined}
 
--- an operation at its place; with 0 cycles, none
-abbrev pub definedOf : Operation → Place → ℕ → ℕ → Decoded
-definedOf operation place length cycles = cond (eqb cycles 0) Undefined (is operation place length cycles)
-
--- the names of rows 0 and 1; NOP stands where there is none
-abbrev pub internals0 : List InternalOperation
-internals0 = Nop ∷ Nop ∷ Nop ∷ Nop ∷ Lsrd ∷ Asld ∷ Tap ∷ Tpa ∷ Inx ∷ Dex ∷ Clv ∷ Sev ∷ Clc ∷ Sec ∷ Cli ∷ Sei ∷ []
-
-abbrev pub internals1 : List InternalOperation
-internals1 = Sba ∷ Cba ∷ Nop ∷ Nop ∷ Nop ∷ Nop ∷ Tab ∷ Tba ∷ Nop ∷ Daa ∷ Nop ∷ Aba ∷ Nop ∷ Nop ∷ Nop ∷ Nop ∷ []
-
 abbrev pub tests2 : List BranchTest
 tests2 = Bra ∷ Brn ∷ Bhi ∷ Bls ∷ Bcc ∷ Bcs ∷ Bne ∷ Beq ∷ Bvc ∷ Bvs ∷ Bpl ∷ Bmi ∷ Bge ∷ Blt ∷ Bgt ∷ Ble ∷ []
-
-abbrev pub operations3 : List Operation
-operations3 =
-    Internal Tsx ∷ Internal Ins ∷ Pul A ∷ Pul B ∷ Internal Des ∷ Internal Txs ∷ Psh A ∷ Psh B
-    ∷ Pulx ∷ Rts ∷ Internal Abx ∷ Rti ∷ Pshx ∷ Internal Mul ∷ Wai ∷ Swi ∷ []
 
 -- the names of rows 4 to 7; CLR stands where there is none
 abbrev pub monadics : List MonadicOperation
@@ -91,16 +71,6 @@ operations8 a =
     ∷ Wide (eitherOf a Lds Ldx)
     ∷ WideStore (eitherOf a Sts Stx)
     ∷ []
-
--- the cycles of rows 0, 1 and 3
-abbrev pub cycles0 : List ℕ
-cycles0 = 0 ∷ 2 ∷ 0 ∷ 0 ∷ 3 ∷ 3 ∷ 2 ∷ 2 ∷ 3 ∷ 3 ∷ 2 ∷ 2 ∷ 2 ∷ 2 ∷ 2 ∷ 2 ∷ []
-
-abbrev pub cycles1 : List ℕ
-cycles1 = 2 ∷ 2 ∷ 0 ∷ 0 ∷ 0 ∷ 0 ∷ 2 ∷ 2 ∷ 0 ∷ 2 ∷ 0 ∷ 2 ∷ 0 ∷ 0 ∷ 0 ∷ 0 ∷ []
-
-abbrev pub cycles3 : List ℕ
-cycles3 = 3 ∷ 3 ∷ 4 ∷ 4 ∷ 3 ∷ 3 ∷ 3 ∷ 3 ∷ 5 ∷ 5 ∷ 3 ∷ 10 ∷ 4 ∷ 10 ∷ 9 ∷ 12 ∷ []
 
 -- what the operations of rows 8 to F add to the cycles of their row
 abbrev pub added : Accumulator → List ℕ

@@ -58,9 +58,9 @@ unfoldable pub storeAt : Storing → ℕ → Registers → ℕ
 storeAt (storing.Sta acc) at c = at
 storeAt (storing.Psh acc) at c = c .sp
 
-unfoldable pub byteOf : Storing → Registers → ℕ
-byteOf (storing.Sta acc) c = accumulator acc c
-byteOf (storing.Psh acc) c = accumulator acc c
+unfoldable pub storeByte : Storing → Registers → ℕ
+storeByte (storing.Sta acc) c = accumulator acc c
+storeByte (storing.Psh acc) c = accumulator acc c
 
 unfoldable pub storedThen : Storing → Registers → Registers
 storedThen (storing.Sta acc) c = withCodes c (movedOf (accumulator acc c) (c .codes))

@@ -16,7 +16,8 @@ use Rattle.operations.specs.declared.Pushing.the-variants as pushing
 use Rattle.operations.specs.declared.Shape.{Shape}
 use Rattle.operations.specs.declared.Shape.the-variants.{Nothing, Load, LoadWord, Store, StoreWord, Modify, PushWord, Rti, Swi, Wai}
 
--- the accumulator or memory that an operation on one byte is for
+-- The accumulator or memory that an operation on one byte is for. Such an operation stands at A, at B, indexed or extended, and at no other
+-- of these places (`placesOf` of opcodes, proved of the whole table).
 abbrev pub targetOf : Place → Target
 targetOf Inherent = Memory
 targetOf AccumulatorA = In A

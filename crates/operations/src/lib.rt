@@ -15,7 +15,7 @@ use registers::Registers;
 ghost use mathlib.Core.Path.{_≡_};
 ghost use Rattle.operations.specs.Shapes.{targetOf, monadicShape, tstShape, shapeOf};
 ghost use Rattle.operations.specs.Operations.{branch, quietOf, loadAt, loadedOf, loadWordAt, loadedWordOf};
-ghost use Rattle.operations.specs.Operations.{storeAt, byteOf, storedThen, storedWordThen, wordOf, pushedThen};
+ghost use Rattle.operations.specs.Operations.{storeAt, storeByte, storedThen, storedWordThen, wordOf, pushedThen};
 
 // What an operation on one byte is for.
 pub enum Target {
@@ -216,7 +216,7 @@ impl Storing {
     }
 
     pub fn byte(self, c: Registers) -> u8
-        ensures { λ r. ⌜ r ≡ byteOf self c ⌝ }
+        ensures { λ r. ⌜ r ≡ storeByte self c ⌝ }
     {
         match self {
             Storing::Sta(acc) => c.of(acc),

@@ -9,7 +9,7 @@ use lib.ListN.{length, take, drop, length-append, length-drop, take-append-drop}
 use lib.Seq.{length-take-le, sets, drop-drop, length-sets}
 use borrow.Author.Tests.{lt-ltb, le-ltb, ltb-true, ltb-false}
 use Rattle.laws.proofs.Lists.{sets-append, take-sets, drop-sets}
-use Rattle.laws.proofs.Lent.{lent, lent-whole, lent-front}
+use Rattle.laws.proofs.Lent.{cameBack, back-whole, back-front}
 use Rattle.numbers.specs.Numbers.{littleEndian, fourBytes}
 use Rattle.numbers.proofs.Laws.{length-littleEndian, four-fit}
 use Rattle.turns.specs.Turn.{Turn, more, done}
@@ -92,30 +92,30 @@ module _ (s : List ℕ) (c : ℕ) where
       → to + (nextAt s at - at) ≤ length b
       → next ≡ nextAt s at → time ≡ timeAt s at → left ≡ time - c → left < 4294967296
       → q₁ ≡ copied (take (at + 4 - at) (drop at s)) (take (length b - to) (drop to b))
-      → let b₁ = lent to (length b - to) b q₁ in
+      → let b₁ = cameBack to (length b - to) b q₁ in
       q₂ ≡ littleEndian (length (take (to + 8 - (to + 4)) (drop (to + 4) b₁))) left
-      → let b₂ = lent (to + 4) (to + 8 - (to + 4)) b₁ q₂ in
+      → let b₂ = cameBack (to + 4) (to + 8 - (to + 4)) b₁ q₂ in
       q₃ ≡ copied (take (next - (at + 8)) (drop (at + 8) s)) (take (length b₂ - (to + 8)) (drop (to + 8) b₂))
-      → lent (to + 8) (length b₂ - (to + 8)) b₂ q₃ ≡ sets b to (shiftedAt s c at)
+      → cameBack (to + 8) (length b₂ - (to + 8)) b₂ q₃ ≡ sets b to (shiftedAt s c at)
   record-stored at to next time left b {q₁} {q₂} {q₃} h l r n t k fits e f g =
-      let b₁ = lent to (length b - to) b q₁ in
-      let b₂ = lent (to + 4) (to + 8 - (to + 4)) b₁ q₂ in
+      let b₁ = cameBack to (length b - to) b q₁ in
+      let b₂ = cameBack (to + 4) (to + 8 - (to + 4)) b₁ q₂ in
       let u = take (at + 4 - at) (drop at s) in
       let p = take (next - (at + 8)) (drop (at + 8) s) in
       let d = length-drop at s in
       let d′ = length-drop (at + 8) s in
       let x : length u ≡ 4 = length-take-le (at + 4 - at) (drop at s) (omega arith) ∙ omega arith in
       let y : length p ≡ next - (at + 8) = length-take-le (next - (at + 8)) (drop (at + 8) s) (omega arith) in
-      let e₁ : b₁ ≡ sets b to u = lent-front b u to (omega arith) e in
+      let e₁ : b₁ ≡ sets b to u = back-front b u to (omega arith) e in
       let l₁ : length b₁ ≡ length b = ap length e₁ ∙ length-sets b to u in
       let m = length-drop (to + 4) b₁ in
       let w : length (take (to + 8 - (to + 4)) (drop (to + 4) b₁)) ≡ 4 =
       length-take-le (to + 8 - (to + 4)) (drop (to + 4) b₁) (omega arith) ∙ omega arith in
       let v : q₂ ≡ fourBytes left = f ∙ ap (λ (j : ℕ). littleEndian j left) w ∙ four-fit left fits in
       let e₂ : b₂ ≡ sets b₁ (to + 4) (fourBytes left) =
-      lent-whole b₁ (fourBytes left) (to + 4) (to + 8 - (to + 4)) (omega arith) (omega arith) v in
+      back-whole b₁ (fourBytes left) (to + 4) (to + 8 - (to + 4)) (omega arith) (omega arith) v in
       let l₂ : length b₂ ≡ length b₁ = ap length e₂ ∙ length-sets b₁ (to + 4) (fourBytes left) in
-      let e₃ = lent-front b₂ p (to + 8) (omega arith) g in
+      let e₃ = back-front b₂ p (to + 8) (omega arith) g in
       record-copied at to next time left b h l n t k e₁ e₂ e₃
 
   -- and so the rest is as long as what is left of the session

@@ -32,7 +32,7 @@ use Rattle.boundary.specs.Counts.{Fine, Fits}
 use Rattle.boundary.proofs.Feeding.{records-done}
 use Rattle.boundary.proofs.Cases.{below-limit, send-rests, act-waits}
 use Rattle.boundary.proofs.Runs.{run-leap}
-use Rattle.run.specs.Leaps.{isDue, endsLeap, First, stirs, Leapt}
+use Rattle.run.specs.Leaps.{isDue, endsLeap, First, stirs, AfterLeap}
 
 -- what decides whether an interrupt is accepted: a pending NMI; or, with I clear, a cause that is there now, OCF or TOF
 abbrev pub accepts : Bool → Bool → Bool → Bool → Bool → Bool
@@ -183,10 +183,10 @@ limit-ends t s h = by _ _ _ _ (le-leb (t .limit) (s .cycles .0) h)
 
 pub leapt : (t : Terms) (s : State) (k : ℕ) {r : State} {m : Machine} → (s .inside && idles (s .machine .chip .registers)) ≡ true
     → First (t .limit - s .cycles .0) k (stirs t s) → Fine s → m ≡ passedOf k (s .machine) → r ≡ grownTo s m (grown k 0 0 0) true
-    → Leapt t s r
+    → AfterLeap t s r
 leapt t s k w h f p q =
     let e = both _ _ w in
-    subst (Leapt t s) (sym (q ∙ ap (λ (x : Machine). grownTo s x (grown k 0 0 0) true) p))
+    subst (AfterLeap t s) (sym (q ∙ ap (λ (x : Machine). grownTo s x (grown k 0 0 0) true) p))
     (still-fine s k f, omega arith, λ _. leap-ends t s (e .0) (e .1) k h, leap-law t s (e .0) (e .1) k h)
 
 -- a leap's cycles are within the limit, so no count can pass its type

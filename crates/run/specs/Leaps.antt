@@ -41,8 +41,8 @@ stirs t s j =
     || isDue (pendingOf (passedOf j (s .machine)))
 
 -- after a leap from s the state is r: within a wait, the leap ends there
-abbrev pub Leapt : Terms → State → State → Type 0
-Leapt t s r =
+abbrev pub AfterLeap : Terms → State → State → Type 0
+AfterLeap t s r =
     Fine r × (s .cycles .0 ≤ r .cycles .0)
     × ((s .inside && idles (s .machine .chip .registers)) ≡ true → endsLeap t r ≡ true)
     × ((l : Lent) → runOf t (worldOf s l) ≡ runOf t (worldOf r l))

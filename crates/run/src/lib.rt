@@ -28,7 +28,7 @@ ghost use Rattle.machine.specs.Interrupts.{pendingOf};
 ghost use Rattle.boundary.specs.World.{lent, terms, worldOf, endedOf, grown};
 ghost use Rattle.boundary.specs.Boundary.{runOf};
 ghost use Rattle.boundary.specs.Counts.{Fine, Fits};
-ghost use Rattle.run.specs.Leaps.{isDue, First, stirs, Leapt, strodeOf, Paced};
+ghost use Rattle.run.specs.Leaps.{isDue, First, stirs, AfterLeap, strodeOf, Paced};
 
 // How a run ended.
 pub struct Outcome {
@@ -118,7 +118,7 @@ fn room(session: &[u8], n: u32, s: State) -> u32
 // After a waiting cycle, the rest of its leap at once: the run goes on the same, from where the leap ends.
 fn leap(session: &[u8], n: u32, s: State) -> State
     requires { ⌜ Fine s × (n ≤ 1000000000) ⌝ }
-    ensures { λ r. ⌜ Leapt (terms (now (session .entry)) n) s r ⌝ }
+    ensures { λ r. ⌜ AfterLeap (terms (now (session .entry)) n) s r ⌝ }
 {
     if !(s.inside & s.machine.chip.registers.idles()) {
         return s;

@@ -2,48 +2,46 @@
 use Prim.Native.Nat.{ℕ, _%_, _≤_}
 use native.Mathlib.Omega.{arith}
 use mathlib.Core.Path.{_≡_, refl, sym, ap, subst, _∙_}
-use mathlib.Core.Bool.{Bool, true, false, true≢false, cond, _&&_, and-eq-true-iff}
+use mathlib.Core.Bool.{Bool, true, false, true≢false, cond, _&&_}
 use mathlib.Core.Option.{Option, none, some, Option·getD}
 use mathlib.Core.List.{List}
 use mathlib.Core.Logic.{_↔_}
 use lib.ListN.{length}
 use lib.Dec.{eqb}
 use borrow.Author.Tests.{leb-true, le-leb, eqb-true, eqb-false, eq-eqb, ne-eqb}
+use Rattle.laws.proofs.Bools.{both}
 use Rattle.bits.specs.Bits.{bit}
 use Rattle.machine.specs.declared.Machine.{Machine}
 use Rattle.machine.specs.Machine.{Ranges}
 use Rattle.machine.proofs.Ranges.{ranges-say, say-ranges}
-use Rattle.saved.specs.Layout.{savedOf, byteAt, wordAt, machineIn}
+use Rattle.saved.specs.Layout.{savedOf, byteIn, wordAt, machineIn}
 use Rattle.saved.specs.Answers.{saveOf, leftOf, Given, gives, replies, standsOf, rangesIn, loadOf}
 use Rattle.saved.proofs.Answers.{wrong-length, wrong-version, no-machine, wrong-machine, ready, load-cases}
 
 -- bytes that stand for a machine: no "bool above 1", and no "arm bit that is none"
 pub record Stands (l : List ℕ) : Type 0 where
-  pub waiting : byteAt l 11 ≤ 1
-  pub nmi : byteAt l 12 ≤ 1
-  pub irq1 : byteAt l 13 ≤ 1
-  pub level : byteAt l 28 ≤ 1
-  pub timerArms : byteAt l 33 % 32 ≡ 0
-  pub serialArms : byteAt l 34 % 32 ≡ 0
+  pub waiting : byteIn l 11 ≤ 1
+  pub nmi : byteIn l 12 ≤ 1
+  pub irq1 : byteIn l 13 ≤ 1
+  pub level : byteIn l 28 ≤ 1
+  pub timerArms : byteIn l 33 % 32 ≡ 0
+  pub serialArms : byteIn l 34 % 32 ≡ 0
 
 -- 01's ranges: "condition codes have their top two bits set; .. bits 0 to 5 of $14 zero", and those of the machine that the bytes stand for
 pub record InRanges (l : List ℕ) : Type 0 where
-  pub codes : (bit (byteAt l 10) 128 ≡ true) × (bit (byteAt l 10) 64 ≡ true)
-  pub control : byteAt l 35 % 64 ≡ 0
+  pub codes : (bit (byteIn l 10) 128 ≡ true) × (bit (byteIn l 10) 64 ≡ true)
+  pub control : byteIn l 35 % 64 ≡ 0
   pub machine : Ranges (machineIn l .chip .bus)
-
-both : {a b : Bool} → (a && b) ≡ true → (a ≡ true) × (b ≡ true)
-both {a} {b} h = and-eq-true-iff a b .0 h
 
 -- the tests say what these say
 stands-say : (l : List ℕ) → standsOf l ≡ true → Stands l
 unfolding standsOf
 stands-say l h =
-    let a = both h in
-    let b = both (a .0) in
-    let c = both (b .0) in
-    let d = both (c .0) in
-    let e = both (d .0) in
+    let a = both _ _ h in
+    let b = both _ _ (a .0) in
+    let c = both _ _ (b .0) in
+    let d = both _ _ (c .0) in
+    let e = both _ _ (d .0) in
     record {
       waiting = leb-true _ _ (e .0);
       nmi = leb-true _ _ (e .1);
@@ -61,9 +59,9 @@ say-stands l h =
 ranges-said : (l : List ℕ) → rangesIn l (machineIn l) ≡ true → InRanges l
 unfolding rangesIn
 ranges-said l h =
-    let a = both h in
-    let b = both (a .0) in
-    let c = both (b .0) in
+    let a = both _ _ h in
+    let b = both _ _ (a .0) in
+    let c = both _ _ (b .0) in
     record { codes = c; control = eqb-true _ _ (b .1); machine = ranges-say (machineIn l .chip .bus) (a .1) }
 
 said-ranges : (l : List ℕ) → InRanges l → rangesIn l (machineIn l) ≡ true

@@ -8,11 +8,11 @@ use mathlib.Core.List.{List, [], _∷_, _++_, append-nil}
 use lib.ListN.{length, getD, set, take, drop, drop-of-length-le}
 use lib.Seq.{take-all}
 use Rattle.machine.specs.declared.Machine.{Machine}
-use Rattle.saved.specs.Layout.{savedOf, byteAt}
+use Rattle.saved.specs.Layout.{savedOf, byteIn}
 
 -- what stands at a place of the saved machine stands at an equal place
-pub there : (m : Machine) {k j v : ℕ} → k ≡ j → v ≡ byteAt (savedOf m) j → v ≡ byteAt (savedOf m) k
-there m e h = h ∙ ap (byteAt (savedOf m)) (sym e)
+pub there : (m : Machine) {k j v : ℕ} → k ≡ j → v ≡ byteIn (savedOf m) j → v ≡ byteIn (savedOf m) k
+there m e h = h ∙ ap (byteIn (savedOf m)) (sym e)
 
 -- what the default of a `match` with the keys a, a + 1, .., n of them, knows
 abbrev pub NoKey : ℕ → ℕ → ℕ → Type 0

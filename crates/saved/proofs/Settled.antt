@@ -1,20 +1,17 @@
 -- The numbers and values tell every answer apart, and any two results that a contract admits are equal, bytes included. Assumes nothing.
 use Prim.Native.Nat.{ℕ}
-use mathlib.Core.Path.{_≡_, refl, sym, ap, _∙_}
+use mathlib.Core.Path.{_≡_, refl, sym, _∙_}
 use mathlib.Core.Bool.{cond}
 use mathlib.Core.List.{List}
 use mathlib.Core.Option.{Option, none, some}
 use lib.Dec.{eqb}
+use Rattle.laws.proofs.Known.{known}
 use Rattle.machine.specs.declared.Machine.{Machine}
 use Rattle.saved.specs.declared.Saved.{Saved}
 use Rattle.saved.specs.declared.Saved.the-variants.{Done, WrongLength}
 use Rattle.saved.specs.declared.Loaded.{Loaded}
 use Rattle.saved.specs.declared.Loaded.the-variants as loaded
 use Rattle.saved.specs.Answers.{toldSaved, saveOf, leftOf, Given, gives, replies, toldLoaded, loadOf}
-
--- an answer that can be read back from what it tells is known by that
-known : {A B : Type 0} (tell : A → B) (back : B → A) → ((a : A) → back (tell a) ≡ a) → (a b : A) → tell a ≡ tell b → a ≡ b
-known tell back h a b e = sym (h a) ∙ ap back e ∙ h b
 
 abbrev savedBack : Option ℕ → Saved
 savedBack none = Done

@@ -12,7 +12,7 @@ use Rattle.saved.specs.declared.Saved.{Saved}
 use Rattle.saved.specs.declared.Saved.the-variants.{Done, WrongLength}
 use Rattle.saved.specs.declared.Loaded.{Loaded}
 use Rattle.saved.specs.declared.Loaded.the-variants as loaded
-use Rattle.saved.specs.Layout.{savedOf, byteAt, wordAt, machineIn}
+use Rattle.saved.specs.Layout.{savedOf, byteIn, wordAt, machineIn}
 
 -- saving: 26 where it refuses
 abbrev pub toldSaved : Saved → Option ℕ
@@ -43,13 +43,13 @@ toldLoaded loaded.WrongMachine = replies 2
 -- "bytes that stand for no machine (a bool above 1, an arm bit that is none)": those that do not pass this
 unfoldable pub standsOf : List ℕ → Bool
 standsOf l =
-    leb (byteAt l 11) 1 && leb (byteAt l 12) 1 && leb (byteAt l 13) 1 && leb (byteAt l 28) 1
-    && eqb (byteAt l 33 % 32) 0 && eqb (byteAt l 34 % 32) 0
+    leb (byteIn l 11) 1 && leb (byteIn l 12) 1 && leb (byteIn l 13) 1 && leb (byteIn l 28) 1
+    && eqb (byteIn l 33 % 32) 0 && eqb (byteIn l 34 % 32) 0
 
 -- 01's ranges of bytes that stand for m: "condition codes have their top two bits set; .. bits 0 to 5 of $14 zero", and the ranges that
 -- m itself can break
 unfoldable pub rangesIn : List ℕ → Machine → Bool
-rangesIn l m = bit (byteAt l 10) 128 && bit (byteAt l 10) 64 && eqb (byteAt l 35 % 64) 0 && rangesOf m
+rangesIn l m = bit (byteIn l 10) 128 && bit (byteIn l 10) 64 && eqb (byteIn l 35 % 64) 0 && rangesOf m
 
 -- loading: the tests in this order, then the machine
 unfoldable pub loadOf : List ℕ → Given

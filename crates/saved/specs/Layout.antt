@@ -58,8 +58,8 @@ savedOf m =
     ∷ []
 
 -- byte k of some bytes, 0 past their end; the word, the four-byte number, and the yes or no that begin there
-abbrev pub byteAt : List ℕ → ℕ → ℕ
-byteAt l k = getD l k 0
+abbrev pub byteIn : List ℕ → ℕ → ℕ
+byteIn l k = getD l k 0
 
 abbrev pub wordAt : List ℕ → ℕ → ℕ
 wordAt l k = two l 0 k
@@ -68,7 +68,7 @@ abbrev pub longAt : List ℕ → ℕ → ℕ
 longAt l k = four l 0 k
 
 abbrev pub boolAt : List ℕ → ℕ → Bool
-boolAt l k = eqb (byteAt l k) 1
+boolAt l k = eqb (byteIn l k) 1
 
 -- the flag whose bit has weight w: in the register's byte whether it is set, in the arms' byte whether it is armed
 abbrev pub flagOf : ℕ → ℕ → ℕ → Flag
@@ -77,18 +77,18 @@ flagOf register arms w = record { set = bit register w; armed = bit arms w }
 -- the machine that bytes stand for, unit by unit
 abbrev pub registersIn : List ℕ → Registers
 registersIn l =
-    record { a = byteAt l 2; b = byteAt l 3; x = wordAt l 4; sp = wordAt l 6; pc = wordAt l 8; codes = codesOf (byteAt l 10); waiting = boolAt l 11 }
+    record { a = byteIn l 2; b = byteIn l 3; x = wordAt l 4; sp = wordAt l 6; pc = wordAt l 8; codes = codesOf (byteIn l 10); waiting = boolAt l 11 }
 
 abbrev pub portAt : List ℕ → ℕ → Port
-portAt l k = record { direction = byteAt l k; latch = byteAt l (k + 1); pins = byteAt l (k + 2) }
+portAt l k = record { direction = byteIn l k; latch = byteIn l (k + 1); pins = byteIn l (k + 2) }
 
 abbrev pub portsIn : List ℕ → Ports
-portsIn l = record { port1 = portAt l 14; port2 = portAt l 17; mode = byteAt l 20 }
+portsIn l = record { port1 = portAt l 14; port2 = portAt l 17; mode = byteIn l 20 }
 
 abbrev pub timerIn : List ℕ → Timer
 timerIn l =
-    let tcsr = byteAt l 21 in
-    let arms = byteAt l 33 in
+    let tcsr = byteIn l 21 in
+    let arms = byteIn l 33 in
     record {
       olvl = bit tcsr 1;
       iedg = bit tcsr 2;
@@ -106,8 +106,8 @@ timerIn l =
 
 abbrev pub serialIn : List ℕ → Serial
 serialIn l =
-    let trcs = byteAt l 30 in
-    let arms = byteAt l 34 in
+    let trcs = byteIn l 30 in
+    let arms = byteIn l 34 in
     record {
       wu = bit trcs 1;
       te = bit trcs 2;
@@ -117,15 +117,15 @@ serialIn l =
       tdre = flagOf trcs arms 32;
       orfe = flagOf trcs arms 64;
       rdrf = flagOf trcs arms 128;
-      rate = byteAt l 29;
-      received = byteAt l 31;
-      transmit = byteAt l 32;
+      rate = byteIn l 29;
+      received = byteIn l 31;
+      transmit = byteIn l 32;
       busy = wordAt l 36;
     }
 
 abbrev pub busIn : List ℕ → Bus
 busIn l =
-    record { ports = portsIn l; timer = timerIn l; serial = serialIn l; rame = bit (byteAt l 35) 64; standby = bit (byteAt l 35) 128; r = longAt l 38 }
+    record { ports = portsIn l; timer = timerIn l; serial = serialIn l; rame = bit (byteIn l 35) 64; standby = bit (byteIn l 35) 128; r = longAt l 38 }
 
 unfoldable pub machineIn : List ℕ → Machine
 machineIn l = record { chip = record { registers = registersIn l; bus = busIn l }; irq1 = boolAt l 13; nmi = boolAt l 12 }

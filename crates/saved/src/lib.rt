@@ -17,7 +17,7 @@ ghost use mathlib.Core.Path.{_≡_};
 ghost use Prim.Native.Nat.{_/_, _≤_, _<_};
 ghost use Rattle.bits.specs.Bits.{weight};
 ghost use Rattle.bus.specs.Access.{ramControlOf};
-ghost use Rattle.saved.specs.Layout.{armsOf, savedOf, byteAt, wordAt, longAt, boolAt, flagOf};
+ghost use Rattle.saved.specs.Layout.{armsOf, savedOf, byteIn, wordAt, longAt, boolAt, flagOf};
 ghost use Rattle.saved.specs.Layout.{registersIn, portAt, portsIn, timerIn, serialIn, busIn, machineIn};
 ghost use Rattle.saved.specs.Answers.{toldSaved, saveOf, leftOf, toldLoaded, standsOf, rangesIn, loadOf};
 
@@ -61,7 +61,7 @@ fn arms(f5: Flag, f6: Flag, f7: Flag) -> u8
 // Bytes 2 to 13: the processor and its two lines.
 fn registers_byte(m: Machine, k: usize) -> u8
     requires { ⌜ (2 ≤ k) × (k < 14) ⌝ }
-    ensures { λ r. ⌜ r ≡ byteAt (savedOf m) k ⌝ }
+    ensures { λ r. ⌜ r ≡ byteIn (savedOf m) k ⌝ }
 {
     match k {
         2 => m.chip.registers.a,
@@ -82,7 +82,7 @@ fn registers_byte(m: Machine, k: usize) -> u8
 // Bytes 14 to 20: the ports.
 fn port_byte(m: Machine, k: usize) -> u8
     requires { ⌜ (14 ≤ k) × (k < 21) ⌝ }
-    ensures { λ r. ⌜ r ≡ byteAt (savedOf m) k ⌝ }
+    ensures { λ r. ⌜ r ≡ byteIn (savedOf m) k ⌝ }
 {
     let p = m.chip.bus.ports;
     match k {
@@ -99,7 +99,7 @@ fn port_byte(m: Machine, k: usize) -> u8
 // Bytes 21 to 28: the timer.
 fn timer_byte(m: Machine, k: usize) -> u8
     requires { ⌜ (21 ≤ k) × (k < 29) ⌝ }
-    ensures { λ r. ⌜ r ≡ byteAt (savedOf m) k ⌝ }
+    ensures { λ r. ⌜ r ≡ byteIn (savedOf m) k ⌝ }
 {
     let t = m.chip.bus.timer;
     match k {
@@ -124,7 +124,7 @@ fn ram_control(b: Bus) -> u8
 // Bytes 29 to 37: the serial interface, the arms, $14 and busy.
 fn serial_byte(m: Machine, k: usize) -> u8
     requires { ⌜ (29 ≤ k) × (k < 38) ⌝ }
-    ensures { λ r. ⌜ r ≡ byteAt (savedOf m) k ⌝ }
+    ensures { λ r. ⌜ r ≡ byteIn (savedOf m) k ⌝ }
 {
     let t = m.chip.bus.timer;
     let s = m.chip.bus.serial;
@@ -151,7 +151,7 @@ fn top_byte(n: u32) -> u8
 // Bytes 38 to 41: R.
 fn start_byte(m: Machine, k: usize) -> u8
     requires { ⌜ (38 ≤ k) × (k < 42) ⌝ }
-    ensures { λ r. ⌜ r ≡ byteAt (savedOf m) k ⌝ }
+    ensures { λ r. ⌜ r ≡ byteIn (savedOf m) k ⌝ }
 {
     let r = m.chip.bus.r;
     match k {
@@ -165,7 +165,7 @@ fn start_byte(m: Machine, k: usize) -> u8
 // Byte k of the saved machine.
 fn saved_byte(m: Machine, k: usize) -> u8
     requires { ⌜ k < 42 ⌝ }
-    ensures { λ r. ⌜ r ≡ byteAt (savedOf m) k ⌝ }
+    ensures { λ r. ⌜ r ≡ byteIn (savedOf m) k ⌝ }
 {
     if k == 0 {
         return 1;
@@ -204,8 +204,8 @@ pub fn save(m: Machine, bytes: &mut [u8]) -> Saved
 }
 
 // Byte k, 0 past the end.
-fn byte_at(bytes: &[u8], k: usize) -> u8
-    ensures { λ r. ⌜ r ≡ byteAt (now (bytes .entry)) k ⌝ }
+fn byte_in(bytes: &[u8], k: usize) -> u8
+    ensures { λ r. ⌜ r ≡ byteIn (now (bytes .entry)) k ⌝ }
 {
     numbers::byte_at(bytes, 0, k)
 }
@@ -227,7 +227,7 @@ fn long_at(bytes: &[u8], k: usize) -> u32
 fn bool_at(bytes: &[u8], k: usize) -> bool
     ensures { λ r. ⌜ r ≡ boolAt (now (bytes .entry)) k ⌝ }
 {
-    byte_at(bytes, k) == 1
+    byte_in(bytes, k) == 1
 }
 
 // The flag whose bit in its register has weight w, armed where the arms have that bit.
@@ -245,12 +245,12 @@ fn registers_in(bytes: &[u8]) -> Registers
     ensures { λ r. ⌜ r ≡ registersIn (now (bytes .entry)) ⌝ }
 {
     Registers {
-        a: byte_at(bytes, 2),
-        b: byte_at(bytes, 3),
+        a: byte_in(bytes, 2),
+        b: byte_in(bytes, 3),
         x: word_at(bytes, 4),
         sp: word_at(bytes, 6),
         pc: word_at(bytes, 8),
-        codes: Codes::from_byte(byte_at(bytes, 10)),
+        codes: Codes::from_byte(byte_in(bytes, 10)),
         waiting: bool_at(bytes, 11),
     }
 }
@@ -261,9 +261,9 @@ fn port_at(bytes: &[u8], k: usize) -> Port
     ensures { λ r. ⌜ r ≡ portAt (now (bytes .entry)) k ⌝ }
 {
     Port {
-        direction: byte_at(bytes, k),
-        latch: byte_at(bytes, k + 1),
-        pins: byte_at(bytes, k + 2),
+        direction: byte_in(bytes, k),
+        latch: byte_in(bytes, k + 1),
+        pins: byte_in(bytes, k + 2),
     }
 }
 
@@ -273,15 +273,15 @@ fn ports_in(bytes: &[u8]) -> Ports
     Ports {
         port1: port_at(bytes, 14),
         port2: port_at(bytes, 17),
-        mode: byte_at(bytes, 20),
+        mode: byte_in(bytes, 20),
     }
 }
 
 fn timer_in(bytes: &[u8]) -> Timer
     ensures { λ r. ⌜ r ≡ timerIn (now (bytes .entry)) ⌝ }
 {
-    let tcsr = byte_at(bytes, 21);
-    let arms = byte_at(bytes, 33);
+    let tcsr = byte_in(bytes, 21);
+    let arms = byte_in(bytes, 33);
     Timer {
         olvl: tcsr / 1 % 2 == 1,
         iedg: tcsr / 2 % 2 == 1,
@@ -301,8 +301,8 @@ fn timer_in(bytes: &[u8]) -> Timer
 fn serial_in(bytes: &[u8]) -> Serial
     ensures { λ r. ⌜ r ≡ serialIn (now (bytes .entry)) ⌝ }
 {
-    let trcs = byte_at(bytes, 30);
-    let arms = byte_at(bytes, 34);
+    let trcs = byte_in(bytes, 30);
+    let arms = byte_in(bytes, 34);
     Serial {
         wu: trcs / 1 % 2 == 1,
         te: trcs / 2 % 2 == 1,
@@ -312,9 +312,9 @@ fn serial_in(bytes: &[u8]) -> Serial
         tdre: flag_of(trcs, arms, 32),
         orfe: flag_of(trcs, arms, 64),
         rdrf: flag_of(trcs, arms, 128),
-        rate: byte_at(bytes, 29),
-        received: byte_at(bytes, 31),
-        transmit: byte_at(bytes, 32),
+        rate: byte_in(bytes, 29),
+        received: byte_in(bytes, 31),
+        transmit: byte_in(bytes, 32),
         busy: word_at(bytes, 36),
     }
 }
@@ -322,7 +322,7 @@ fn serial_in(bytes: &[u8]) -> Serial
 fn bus_in(bytes: &[u8]) -> Bus
     ensures { λ r. ⌜ r ≡ busIn (now (bytes .entry)) ⌝ }
 {
-    let control = byte_at(bytes, 35);
+    let control = byte_in(bytes, 35);
     Bus {
         ports: ports_in(bytes),
         timer: timer_in(bytes),
@@ -354,20 +354,20 @@ fn machine_in(bytes: &[u8]) -> Machine
 fn stands(bytes: &[u8]) -> bool
     ensures { λ r. ⌜ r ≡ standsOf (now (bytes .entry)) ⌝ }
 {
-    (byte_at(bytes, 11) <= 1)
-        & (byte_at(bytes, 12) <= 1)
-        & (byte_at(bytes, 13) <= 1)
-        & (byte_at(bytes, 28) <= 1)
-        & (byte_at(bytes, 33) % 32 == 0)
-        & (byte_at(bytes, 34) % 32 == 0)
+    (byte_in(bytes, 11) <= 1)
+        & (byte_in(bytes, 12) <= 1)
+        & (byte_in(bytes, 13) <= 1)
+        & (byte_in(bytes, 28) <= 1)
+        & (byte_in(bytes, 33) % 32 == 0)
+        & (byte_in(bytes, 34) % 32 == 0)
 }
 
 // Whether the bytes, which stand for this machine, are in the machine's ranges.
 fn in_ranges(bytes: &[u8], m: Machine) -> bool
     ensures { λ r. ⌜ r ≡ rangesIn (now (bytes .entry)) m ⌝ }
 {
-    let codes = byte_at(bytes, 10);
-    (codes / 128 % 2 == 1) & (codes / 64 % 2 == 1) & (byte_at(bytes, 35) % 64 == 0) & m.in_ranges()
+    let codes = byte_in(bytes, 10);
+    (codes / 128 % 2 == 1) & (codes / 64 % 2 == 1) & (byte_in(bytes, 35) % 64 == 0) & m.in_ranges()
 }
 
 // The machine that was saved as these bytes, or a refusal.

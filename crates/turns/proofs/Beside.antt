@@ -1,10 +1,23 @@
--- Two loops whose turns keep a relation end related. Assumes nothing.
+-- Two loops side by side, of any states and results: Q relates the states of the one to those of the other, E the results. Two loops whose
+-- turns keep a relation end related. Assumes nothing.
 use Prim.Native.Nat.{ℕ, zero, suc, _+_, _≤_, _<_}
 use native.Mathlib.Omega.{arith}
 use mathlib.Core.Path.{_≡_, refl}
 use Rattle.turns.specs.Turn.{Turn, more, done, loopOf}
-use Rattle.turns.specs.Beside.{Both, Beside, together, firstAlone, secondAlone}
 use Rattle.turns.proofs.Laws.{loop-more, loop-done}
+
+-- both turns go on to related states, or both are the last with related results
+abbrev pub Both : {S R S′ R′ : Type 0} → (S → S′ → Type 0) → (R → R′ → Type 0) → Turn S R → Turn S′ R′ → Type 0
+Both Q E (more s) (more t) = Q s t
+Both Q E (more s) (done b) = ⊥
+Both Q E (done a) (more t) = ⊥
+Both Q E (done a) (done b) = E a b
+
+-- What the turns x from s and y from t come to: both are taken, or one of them alone while the other loop stands.
+pub data Beside {S R S′ R′ : Type 0} (Q : S → S′ → Type 0) (E : R → R′ → Type 0) (s : S) (t : S′) (x : Turn S R) (y : Turn S′ R′) : Type 0 where
+  bothTaken : Both Q E x y → Beside Q E s t x y
+  firstAlone : (u : S) → x ≡ more u → Q u t → Beside Q E s t x y
+  secondAlone : (u : S′) → y ≡ more u → Q s u → Beside Q E s t x y
 
 module _ {S R S′ R′ : Type 0}
     (turn : S → Turn S R) (out : S → R) (μ : S → ℕ) (falls : (s u : S) → turn s ≡ more u → μ u < μ s)
@@ -29,7 +42,7 @@ module _ {S R S′ R′ : Type 0}
         pair ih (done a) (done b) d e n = rw (loop-done turn out μ falls d, loop-done turn′ out′ μ′ falls′ e) n
 
         by : ((s : S) (t : S′) → μ s + μ′ t < f → Q s t → Ends s t) → Beside Q E s t (turn s) (turn′ t) → Ends s t
-        by ih (together b) = pair ih (turn s) (turn′ t) refl refl b
+        by ih (bothTaken b) = pair ih (turn s) (turn′ t) refl refl b
         by ih (firstAlone u d k) =
             let h : μ u < μ s = falls s u d in
             rw (loop-more turn out μ falls d) (ih u t (omega arith) k)
@@ -44,4 +57,4 @@ module _ {S R S′ R′ : Type 0}
   -- turn by turn
   pub loop-beside : ((s : S) (t : S′) → Q s t → Both Q E (turn s) (turn′ t))
       → (s : S) (t : S′) → Q s t → E (loopOf turn out μ s) (loopOf turn′ out′ μ′ t)
-  loop-beside keeps = loop-stutters (λ s t q. together (keeps s t q))
+  loop-beside keeps = loop-stutters (λ s t q. bothTaken (keeps s t q))

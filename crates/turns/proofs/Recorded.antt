@@ -10,10 +10,21 @@ use lib.ListN.{length, take, length-append}
 use lib.Seq.{take-at}
 use borrow.Author.Tests.{le-leb, lt-leb, leb-true, leb-false}
 use Rattle.turns.specs.Turn.{Turn, more, done, Then, loopOf}
-use Rattle.turns.specs.Beside.{Both}
 use Rattle.turns.specs.Recorded.{onward, visits, pathOf, allOf, rowsOf, Listed, listed, withRows}
-use Rattle.turns.specs.Recorded.{recordedTurn, recordedOf, roomyTurn, roomyOf, CutOff, total}
+use Rattle.turns.specs.Recorded.{recordedTurn, recordedOf, roomyTurn, roomyOf, total}
+use Rattle.turns.proofs.Beside.{Both}
 use Rattle.turns.proofs.Laws.{same-more, apart, then-more, then-done, loop-more, loop-done, loop-induction}
+
+-- How a loop with room for so many rows ends where the room does, the loop itself having the rows `whole` and the result `end`: before the turn from `at`, whose
+-- rows no longer fit, with the rows of the turns before; and from there on, with new room, it is the loop as if uncut.
+pub record CutOff {S R A : Type 0} (turn : S → Turn S R) (out : S → R) (μ : S → ℕ) (did : S → List A) (stop : S → R) (room : ℕ)
+    (whole : List A) (end : R) (e : Listed A R) : Type 0 where
+  pub at : S
+  pub result : e .value ≡ stop at
+  pub fits : length (e .rows) ≤ room
+  pub over : room < length (e .rows) + length (did at)
+  pub rest : whole ≡ e .rows ++ rowsOf turn μ did at
+  pub onwards : end ≡ loopOf turn out μ at
 
 -- sums
 pub total-append : {A : Type 0} (part : A → ℕ) (l m : List A) → total part (l ++ m) ≡ total part l + total part m

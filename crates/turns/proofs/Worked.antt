@@ -5,9 +5,8 @@ use mathlib.Core.Path.{_≡_, refl, sym, ap, subst, _∙_}
 use mathlib.Core.List.{List, [], _∷_, _++_}
 use lib.ListN.{length, take}
 use Rattle.turns.specs.Turn.{Turn, more, done, Then, turns, loopOf}
-use Rattle.turns.specs.Beside.{Both, Beside, together, firstAlone}
 use Rattle.turns.specs.Recorded.{rowsOf, listed, recordedTurn, recordedOf, roomyTurn, roomyOf, total}
-use Rattle.turns.proofs.Beside.{loop-beside, loop-stutters}
+use Rattle.turns.proofs.Beside.{Both, Beside, bothTaken, firstAlone, loop-beside, loop-stutters}
 use Rattle.turns.proofs.Laws.{same-more, apart}
 use Rattle.turns.proofs.Recorded.{total-ones, rows-counted, recorded, roomy-first}
 
@@ -98,9 +97,9 @@ sum-thinned l =
     (sum l 0) (sum (thinned l) 0) (record { ahead = refl; so-far = refl })
   where
     by : (l : List ℕ) (m n : ℕ) → m ≡ n → Beside Thinner (λ m n. m ≡ n) (sum l m) (sum (thinned l) n) (sumFrom l m) (sumFrom (thinned l) n)
-    by [] m n e = together e
+    by [] m n e = bothTaken e
     by (zero ∷ l) m n e = firstAlone (sum l (0 + m)) refl (record { ahead = refl; so-far = omega arith })
-    by (suc x ∷ l) m n e = together (record { ahead = refl; so-far = omega arith })
+    by (suc x ∷ l) m n e = bothTaken (record { ahead = refl; so-far = omega arith })
 
 -- 3. What a loop did: the number left, at each turn that goes on.
 abbrev leftFrom : ℕ → List ℕ

@@ -7,5 +7,5 @@ pub bool-at-spec : {M : Type 1} → statement M
 bool-at-spec =
     tie.close
     (tie.spec
-    (λ c κs. search needs)  -- byte-at-requires
-    (λ c. rw (c .byte-at .ensures)))  -- returns
+    (λ c κs. search needs)  -- byte-in-requires
+    (λ c. rw (c .byte-in .ensures)))  -- returns

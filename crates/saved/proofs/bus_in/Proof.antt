@@ -7,7 +7,7 @@ pub bus-in-spec : {M : Type 1} → statement M
 bus-in-spec =
     tie.close
     (tie.spec
-    (λ c κs. search needs)  -- byte-at-requires
+    (λ c κs. search needs)  -- byte-in-requires
     (λ c κs. search needs)  -- ports-in-requires
     (λ c κs. search needs)  -- timer-in-requires
     (λ c κs. search needs)  -- serial-in-requires
@@ -17,5 +17,5 @@ bus-in-spec =
       c .before .serial-in .ensures,
       c .before .before .timer-in .ensures,
       c .before .before .before .ports-in .ensures,
-      c .before .before .before .before .byte-at .ensures,
+      c .before .before .before .before .byte-in .ensures,
     )))  -- returns

@@ -9,7 +9,7 @@ unfolding rangesIn
 in-ranges-spec =
     tie.close
     (tie.spec
-    (λ c κs. search needs)  -- byte-at-requires
-    (λ c κs. search needs)  -- byte-at-requires-2
+    (λ c κs. search needs)  -- byte-in-requires
+    (λ c κs. search needs)  -- byte-in-requires-2
     (λ c κs. search needs)  -- in-ranges-requires
-    (λ c. rw (c .in-ranges .ensures, c .before .byte-at2 .ensures, c .before .before .byte-at .ensures)))  -- returns
+    (λ c. rw (c .in-ranges .ensures, c .before .byte-in2 .ensures, c .before .before .byte-in .ensures)))  -- returns

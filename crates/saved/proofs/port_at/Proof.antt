@@ -7,9 +7,9 @@ pub port-at-spec : {M : Type 1} → statement M
 port-at-spec =
     tie.close
     (tie.spec
-    (λ c κs. search needs)  -- byte-at-requires
+    (λ c κs. search needs)  -- byte-in-requires
     (λ c. search needs)  -- add-result
-    (λ c κs. search needs)  -- byte-at-requires-2
+    (λ c κs. search needs)  -- byte-in-requires-2
     (λ c. search needs)  -- add-result-2
-    (λ c κs. search needs)  -- byte-at-requires-3
-    (λ c. rw (c .byte-at3 .ensures, c .before .byte-at2 .ensures, c .before .before .byte-at .ensures)))  -- returns
+    (λ c κs. search needs)  -- byte-in-requires-3
+    (λ c. rw (c .byte-in3 .ensures, c .before .byte-in2 .ensures, c .before .before .byte-in .ensures)))  -- returns

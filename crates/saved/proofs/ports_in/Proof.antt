@@ -9,5 +9,5 @@ ports-in-spec =
     (tie.spec
     (λ c κs. search needs)  -- port-at-requires
     (λ c κs. search needs)  -- port-at-requires-2
-    (λ c κs. search needs)  -- byte-at-requires
-    (λ c. rw (c .byte-at .ensures, c .before .port-at2 .ensures, c .before .before .port-at .ensures)))  -- returns
+    (λ c κs. search needs)  -- byte-in-requires
+    (λ c. rw (c .byte-in .ensures, c .before .port-at2 .ensures, c .before .before .port-at .ensures)))  -- returns

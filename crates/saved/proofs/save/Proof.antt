@@ -6,7 +6,7 @@ use mathlib.Core.List.{List}
 use lib.ListN.{length, set, length-set}
 use borrow.Author.Tests.{eq-eqb, ne-eqb}
 use Rattle.machine.specs.declared.Machine.{Machine}
-use Rattle.saved.specs.Layout.{savedOf, byteAt}
+use Rattle.saved.specs.Layout.{savedOf, byteIn}
 use Rattle.saved.proofs.Places.{over, over-more, over-all}
 use Rattle.saved.proofs.save.Statement.{statement}
 use Rattle.saved.proofs.save.Tie as tie
@@ -18,7 +18,7 @@ abbrev μ-loop : tie.MeasureT-loop
 μ-loop m bytes₀ k₀ bytes k = 42 - k
 
 -- a turn writes one more byte
-more : (m : Machine) (old bytes : List ℕ) (k v : ℕ) → k < 42 → length old ≡ 42 → bytes ≡ over (savedOf m) k old → v ≡ byteAt (savedOf m) k
+more : (m : Machine) (old bytes : List ℕ) (k v : ℕ) → k < 42 → length old ≡ 42 → bytes ≡ over (savedOf m) k old → v ≡ byteIn (savedOf m) k
     → set bytes k v ≡ over (savedOf m) (k + 1) old
 unfolding savedOf
 more m old bytes k v h e i d = over-more (savedOf m) old bytes k v h (omega (arith, h, e)) i d

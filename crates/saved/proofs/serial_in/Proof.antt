@@ -7,23 +7,23 @@ pub serial-in-spec : {M : Type 1} → statement M
 serial-in-spec =
     tie.close
     (tie.spec
-    (λ c κs. search needs)  -- byte-at-requires
-    (λ c κs. search needs)  -- byte-at-requires-2
+    (λ c κs. search needs)  -- byte-in-requires
+    (λ c κs. search needs)  -- byte-in-requires-2
     (λ c κs. search needs)  -- flag-of-requires
     (λ c κs. search needs)  -- flag-of-requires-2
     (λ c κs. search needs)  -- flag-of-requires-3
-    (λ c κs. search needs)  -- byte-at-requires-3
-    (λ c κs. search needs)  -- byte-at-requires-4
-    (λ c κs. search needs)  -- byte-at-requires-5
+    (λ c κs. search needs)  -- byte-in-requires-3
+    (λ c κs. search needs)  -- byte-in-requires-4
+    (λ c κs. search needs)  -- byte-in-requires-5
     (λ c κs. search needs)  -- word-at-requires
     (λ c. rw (
       c .word-at .ensures,
-      c .before .byte-at5 .ensures,
-      c .before .before .byte-at4 .ensures,
-      c .before .before .before .byte-at3 .ensures,
+      c .before .byte-in5 .ensures,
+      c .before .before .byte-in4 .ensures,
+      c .before .before .before .byte-in3 .ensures,
       c .before .before .before .before .flag-of3 .ensures,
       c .before .before .before .before .before .flag-of2 .ensures,
       c .before .before .before .before .before .before .flag-of .ensures,
-      c .before .before .before .before .before .before .before .byte-at2 .ensures,
-      c .before .before .before .before .before .before .before .before .byte-at .ensures,
+      c .before .before .before .before .before .before .before .byte-in2 .ensures,
+      c .before .before .before .before .before .before .before .before .byte-in .ensures,
     )))  -- returns

@@ -9,17 +9,17 @@ unfolding standsOf
 stands-spec =
     tie.close
     (tie.spec
-    (λ c κs. search needs)  -- byte-at-requires
-    (λ c κs. search needs)  -- byte-at-requires-2
-    (λ c κs. search needs)  -- byte-at-requires-3
-    (λ c κs. search needs)  -- byte-at-requires-4
-    (λ c κs. search needs)  -- byte-at-requires-5
-    (λ c κs. search needs)  -- byte-at-requires-6
+    (λ c κs. search needs)  -- byte-in-requires
+    (λ c κs. search needs)  -- byte-in-requires-2
+    (λ c κs. search needs)  -- byte-in-requires-3
+    (λ c κs. search needs)  -- byte-in-requires-4
+    (λ c κs. search needs)  -- byte-in-requires-5
+    (λ c κs. search needs)  -- byte-in-requires-6
     (λ c. rw (
-      c .byte-at6 .ensures,
-      c .before .byte-at5 .ensures,
-      c .before .before .byte-at4 .ensures,
-      c .before .before .before .byte-at3 .ensures,
-      c .before .before .before .before .byte-at2 .ensures,
-      c .before .before .before .before .before .byte-at .ensures,
+      c .byte-in6 .ensures,
+      c .before .byte-in5 .ensures,
+      c .before .before .byte-in4 .ensures,
+      c .before .before .before .byte-in3 .ensures,
+      c .before .before .before .before .byte-in2 .ensures,
+      c .before .before .before .before .before .byte-in .ensures,
     )))  -- returns

@@ -7,8 +7,8 @@ pub timer-in-spec : {M : Type 1} → statement M
 timer-in-spec =
     tie.close
     (tie.spec
-    (λ c κs. search needs)  -- byte-at-requires
-    (λ c κs. search needs)  -- byte-at-requires-2
+    (λ c κs. search needs)  -- byte-in-requires
+    (λ c κs. search needs)  -- byte-in-requires-2
     (λ c κs. search needs)  -- flag-of-requires
     (λ c κs. search needs)  -- flag-of-requires-2
     (λ c κs. search needs)  -- flag-of-requires-3
@@ -24,6 +24,6 @@ timer-in-spec =
       c .before .before .before .before .flag-of3 .ensures,
       c .before .before .before .before .before .flag-of2 .ensures,
       c .before .before .before .before .before .before .flag-of .ensures,
-      c .before .before .before .before .before .before .before .byte-at2 .ensures,
-      c .before .before .before .before .before .before .before .before .byte-at .ensures,
+      c .before .before .before .before .before .before .before .byte-in2 .ensures,
+      c .before .before .before .before .before .before .before .before .byte-in .ensures,
     )))  -- returns

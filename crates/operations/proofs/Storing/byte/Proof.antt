@@ -1,10 +1,10 @@
 use borrow.Author.Needs.{needs}
-use Rattle.operations.specs.Operations.{byteOf}
+use Rattle.operations.specs.Operations.{storeByte}
 use Rattle.operations.proofs.Storing.byte.Statement.{statement}
 use Rattle.operations.proofs.Storing.byte.Tie as tie
 
 pub byte-spec : {M : Type 1} → statement M
-unfolding byteOf
+unfolding storeByte
 byte-spec =
     tie.close
     (tie.spec

@@ -1,13 +1,13 @@
--- `saved::byte_at` meets its contract: it is the byte k after the front. Assumes nothing.
+-- `saved::byte_in` meets its contract: it is the byte k after the front. Assumes nothing.
 use native.Mathlib.Nat.{zero-add}
 use mathlib.Core.Path.{ap, _∙_}
 use lib.ListN.{getD}
 use borrow.Author.Needs.{needs}
-use Rattle.saved.proofs.byte_at.Statement.{statement}
-use Rattle.saved.proofs.byte_at.Tie as tie
+use Rattle.saved.proofs.byte_in.Statement.{statement}
+use Rattle.saved.proofs.byte_in.Tie as tie
 
-pub byte-at-spec : {M : Type 1} → statement M
-byte-at-spec =
+pub byte-in-spec : {M : Type 1} → statement M
+byte-in-spec =
     tie.close
     (tie.spec
     (λ c κs. search needs)  -- byte-at-requires
