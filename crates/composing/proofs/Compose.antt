@@ -16,8 +16,8 @@ use Rattle.boundary.specs.declared.Stop.the-variants.{Limit, Undefined, Full}
 use Rattle.boundary.specs.World.{Lent, withOutput, Terms, terms, World}
 use Rattle.boundary.specs.Boundary.{runOf}
 use Rattle.boundary.specs.Start.{startWorld, ranOf}
-use Rattle.boundary_theorems.proofs.Kept.{image-length}
-use Rattle.boundary_theorems.proofs.Output.{filled-part}
+use Rattle.boundary.proofs.Kept.{image-length}
+use Rattle.boundary.proofs.Output.{filled-part}
 use Rattle.boundary_theorems.proofs.InRanges.{run-ranges}
 use Rattle.cabinet.specs.declared.Ran.{Ran}
 use Rattle.cabinet.specs.Answers.{toldStop, End, endAt, endOf, Answer, answerAt, answered, answerOf, leapsOf}

@@ -7,7 +7,7 @@ use mathlib.Core.Path.{_≡_, refl, sym, ap, _∙_}
 use lib.ListN.{length, take, drop, length-drop, drop-of-length-le}
 use Rattle.replies.specs.Replies.{toldReply}
 use Rattle.boundary.specs.World.{lent, Lent, withOutput, terms}
-use Rattle.boundary_theorems.proofs.Output.{filled-part}
+use Rattle.boundary.proofs.Output.{filled-part}
 use Rattle.cabinet.specs.declared.Leapt.{Leapt}
 use Rattle.cabinet.specs.Answers.{Answer, answered, answerOf, leapsOf}
 use Rattle.cabinet.proofs.Ends.{left-cases}

@@ -25,8 +25,8 @@ use Rattle.boundary.specs.Boundary.{fedWorld, sendOf, boundaryOf, runOf}
 use Rattle.boundary.specs.Start.{startWorld, ranOf}
 use Rattle.boundary.proofs.Cases.{at-limit, below-limit}
 use Rattle.boundary.proofs.Runs.{run-more, run-done, run-keeps}
-use Rattle.boundary_theorems.proofs.Kept.{image-length}
-use Rattle.boundary_theorems.proofs.Output.{filled-part}
+use Rattle.boundary.proofs.Kept.{image-length}
+use Rattle.boundary.proofs.Output.{filled-part}
 use Rattle.boundary_theorems.proofs.InRanges.{run-ranges}
 use Rattle.cabinet.specs.Answers.{toldStop, End, endAt, endOf, Answer, answerAt}
 use Rattle.cabinet_theorems.proofs.Exactly.{admitted-end}
