@@ -19,22 +19,22 @@ use Rattle.machine.specs.Machine.{powerOnOf}
 use Rattle.boundary.specs.World.{lent, terms}
 use Rattle.cabinet.specs.Answers.{Answer, answerOf}
 use Rattle.cabinet.proofs.Ends.{reply-most}
-use Rattle.bench_input.specs.declared.Loaded.{Loaded}
-use Rattle.bench_input.specs.declared.Loaded.the-variants.{Bad, Run}
-use Rattle.bench_input.specs.Input.{isGood, loadedOf}
+use Rattle.bench_input.specs.declared.Input.{Input}
+use Rattle.bench_input.specs.declared.Input.the-variants.{Bad, Run}
+use Rattle.bench_input.specs.Input.{isGood, inputOf}
 use Rattle.bench_input.proofs.Laws.{loaded-bad, loaded-run}
 use Rattle.printing.specs.declared.Line.{Line}
 use Rattle.printing.specs.Printing.{ascii, emptyLine, putsOf, shown, digitOf, decimalFrom, decimalOf}
-use Rattle.printing.proofs.Shown.{shown-whole, Short, _then_, short, decimal-short}
+use Rattle.printing.proofs.Shown.{shown-whole, Short, _then_, short, decimal-short, one-digit}
 use Rattle.lines.specs.Lines.{refusedText, refusal}
 use Rattle.lines.proofs.Short.{counts-short, registers-short, refused-short}
-use Rattle.bench_answer.specs.Answer.{numbersOf, stopText, textOf, onPower, onLoaded, lineOf}
+use Rattle.bench_answer.specs.Answer.{stopText, textOf, poweredText, Request, toldInput, inputText, lineOf}
 
 -- how long each text can be
 stop-short : (a : Answer) → Short 200 (stopText a)
 unfolding stopText
 stop-short a =
-    (short (ascii "stop ") then decimal-short (a .reply .number)) then counts-short (numbersOf a) then registers-short (a .machine .chip .registers)
+    (short (ascii "stop ") then decimal-short (a .reply .number)) then counts-short _ then registers-short (a .machine .chip .registers)
 
 text-short : (a : Answer) → Short 200 (textOf a)
 unfolding textOf
@@ -44,19 +44,23 @@ text-short a = by (stops (a .reply .number))
     by true = stop-short a
     by false = refused-short (a .reply .number) (a .reply .named)
 
-power-short : (image session : List ℕ) (n : ℕ) (p : Given Machine) → Short 200 (onPower image session n p)
-unfolding onPower
+power-short : (image session : List ℕ) (n : ℕ) (p : Given Machine) → Short 200 (poweredText image session n p)
+unfolding poweredText
 power-short image session n (replies k) = refused-short k none
 power-short image session n (gives m) = text-short (answerOf (terms session n) m (lent image (replicate 256 0)))
 
-loaded-short : (input : List ℕ) (l : Loaded) → Short 200 (onLoaded input l)
-unfolding onLoaded
-loaded-short input Bad = refused-short 10 none
-loaded-short input (Run n r start) = power-short _ _ n _
+input-short : (input : List ℕ) (g : Given Request) → Short 200 (inputText input g)
+unfolding inputText
+input-short input (replies k) = refused-short k none
+input-short input (gives q) = power-short _ _ (q .n) _
 
 -- "exactly (then a newline)": a line has at most 201 bytes
 pub line-short : (input : List ℕ) → length (lineOf input) ≤ 201
-line-short input = (loaded-short input (loadedOf input) then short (ascii "\n")) .most
+line-short input = (input-short input (toldInput (inputOf input)) then short (ascii "\n")) .most
+
+-- "any two results it admits are proved equal"
+pub answer-settled : (input : List ℕ) (r r′ : Line) → r ≡ putsOf emptyLine (lineOf input) → r′ ≡ putsOf emptyLine (lineOf input) → r ≡ r′
+answer-settled input r r′ p q = p ∙ sym q
 
 -- what `answer` returns shows the line, all of it
 pub line-shown : (input : List ℕ) (r : Line) → r ≡ putsOf emptyLine (lineOf input) → shown r ≡ lineOf input
@@ -65,10 +69,6 @@ line-shown input r e = ap shown e ∙ shown-whole (lineOf input) (let h = line-s
 -- The line of reply 10 is no other reply's: it has a 0 after its 1, and begins as no stop does.
 abbrev IsTen : List ℕ → Type 0
 IsTen text = text ++ ascii "\n" ≡ ascii "refused 10\n"
-
-one-digit : (k : ℕ) → k ≤ 9 → decimalOf k ≡ digitOf (k % 10) ∷ []
-unfolding decimalFrom
-one-digit k h = rw (lt-ltb k 10 (omega (arith, h)))
 
 refused-other : (k : ℕ) (r : Option ℕ) → k ≤ 9 → IsTen (refusedText k r) → ⊥
 unfolding refusedText
@@ -96,26 +96,28 @@ text-other a h = by (stops (a .reply .number))
     by true e = stop-other a e
     by false e = refused-other (a .reply .number) (a .reply .named) h e
 
-power-other : (image session : List ℕ) (n : ℕ) (p : Power) → IsTen (onPower image session n (toldPower p)) → ⊥
-unfolding onPower
+power-other : (image session : List ℕ) (n : ℕ) (p : Power) → IsTen (poweredText image session n (toldPower p)) → ⊥
+unfolding poweredText
 power-other image session n power.WrongImage e = refused-other 1 none (omega arith) e
 power-other image session n power.WrongStart e = refused-other 2 none (omega arith) e
 power-other image session n (power.On m) e =
     text-other (answerOf (terms session n) m (lent image (replicate 256 0))) (reply-most (terms session n) m (lent image (replicate 256 0))) e
 
-loaded-other : (input : List ℕ) (n r start : ℕ) → IsTen (onLoaded input (Run n r start)) → ⊥
-unfolding onLoaded
-loaded-other input n r start e = power-other _ _ n (powerOnOf _ r) e
+input-other : (input : List ℕ) (n r start : ℕ) → IsTen (inputText input (toldInput (Run n r start))) → ⊥
+unfolding inputText
+input-other input n r start e = power-other _ _ n (powerOnOf _ r) e
 
-bad-ten : (input : List ℕ) → IsTen (onLoaded input Bad)
-unfolding onLoaded refusedText decimalFrom
+bad-ten : (input : List ℕ) → IsTen (inputText input (toldInput Bad))
+unfolding inputText refusedText decimalFrom
 bad-ten input = refl
+
+told-line : (input : List ℕ) {l : Input} → inputOf input ≡ l → lineOf input ≡ inputText input (toldInput l) ++ ascii "\n"
+told-line input e = ap (λ (l : Input). inputText input (toldInput l) ++ ascii "\n") e
 
 -- reply 10: "the program's own input is bad"
 pub refused-10 : (input : List ℕ) → (lineOf input ≡ ascii "refused 10\n") ↔ (isGood input ≡ false)
-refused-10 input = (by (isGood input) refl, λ e. ap (λ (l : Loaded). onLoaded input l ++ ascii "\n") (sym (loaded-bad input [] e .0)) ∙ bad-ten input)
+refused-10 input = (by (isGood input) refl, λ e. told-line input (sym (loaded-bad input [] e .0)) ∙ bad-ten input)
   where
     by : (b : Bool) → isGood input ≡ b → lineOf input ≡ ascii "refused 10\n" → isGood input ≡ false
     by false e t = e
-    by true e t =
-        absurd (loaded-other input _ _ _ (sym (ap (λ (l : Loaded). onLoaded input l ++ ascii "\n") (loaded-run input [] e .0)) ∙ t))
+    by true e t = absurd (input-other input _ _ _ (sym (told-line input (loaded-run input [] e .0)) ∙ t))

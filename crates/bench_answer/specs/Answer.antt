@@ -11,18 +11,17 @@ use Rattle.machine.specs.declared.Machine.{Machine}
 use Rattle.boundary.specs.World.{Lent, lent, terms}
 use Rattle.cabinet.specs.Answers.{Answer, answerOf}
 use Rattle.printing.specs.Printing.{ascii}
-use Rattle.lines.specs.declared.Numbers.{Numbers}
-use Rattle.lines.specs.Lines.{counted, countsText, registersText, refusedText, refusal}
-use Rattle.bench_input.specs.declared.Loaded.{Loaded}
-use Rattle.bench_input.specs.declared.Loaded.the-variants.{Bad, Run}
-use Rattle.bench_input.specs.Input.{loadedOf, imageOf}
-
-abbrev pub numbersOf : Answer → Numbers
-numbersOf a = record { cycles = a .cycles; instructions = a .instructions; entries = a .entries; used = a .used; sent = a .sent }
+use Rattle.lines.specs.Lines.{counted, numbersOf, countsText, registersText, refusedText, refusal}
+use Rattle.bench_input.specs.declared.Input.{Input}
+use Rattle.bench_input.specs.declared.Input.the-variants.{Bad, Run}
+use Rattle.bench_input.specs.Input.{inputOf, imageOf}
 
 -- "the reply, cycles, instructions, interrupt entries, records used and bytes sent in decimal, then registers in hexadecimal"
 unfoldable pub stopText : Answer → List ℕ
-stopText a = counted "stop " (a .reply .number) ++ countsText (numbersOf a) ++ registersText (a .machine .chip .registers)
+stopText a =
+    counted "stop " (a .reply .number)
+    ++ countsText (numbersOf (a .cycles) (a .instructions) (a .entries) (a .used) (a .sent))
+    ++ registersText (a .machine .chip .registers)
 
 -- "Replies 1 to 3 and 10 print `refused K`; 4 to 7 print `refused K record R`"
 unfoldable pub textOf : Answer → List ℕ
@@ -33,21 +32,34 @@ abbrev pub nothing : Lent
 nothing = lent [] []
 
 -- "output room is 256"; the results are the leaping run's, which are the single run's
-unfoldable pub onPower : List ℕ → List ℕ → ℕ → Given Machine → List ℕ
-onPower image session n (replies k) = refusedText k none
-onPower image session n (gives m) = textOf (answerOf (terms session n) m (lent image (replicate 256 0)))
+unfoldable pub poweredText : List ℕ → List ℕ → ℕ → Given Machine → List ℕ
+poweredText image session n (replies k) = refusedText k none
+poweredText image session n (gives m) = textOf (answerOf (terms session n) m (lent image (replicate 256 0)))
 
 -- "Unloaded bytes are 0"
 unfoldable pub unloaded : List ℕ
 unloaded = replicate 65536 0
 
--- a bad input is reply 10
-unfoldable pub onLoaded : List ℕ → Loaded → List ℕ
-onLoaded input Bad = refusedText 10 none
-onLoaded input (Run n r start) =
+-- what a good input asks: N, R, and where its session begins; a bad one is reply 10
+pub record Request : Type 0 where
+  pub n : ℕ
+  pub r : ℕ
+  pub session : ℕ
+
+abbrev pub toldInput : Input → Given Request
+toldInput Bad = replies 10
+toldInput (Run n r session) = gives (record { n = n; r = r; session = session })
+
+unfoldable pub inputText : List ℕ → Given Request → List ℕ
+inputText input (replies k) = refusedText k none
+inputText input (gives q) =
     let image = imageOf input unloaded in
-    onPower image (drop start input) n (powerAnswer image r)
+    poweredText image (drop (q .session) input) (q .n) (powerAnswer image (q .r))
 
 -- the line, "then a newline"
 abbrev pub lineOf : List ℕ → List ℕ
-lineOf input = onLoaded input (loadedOf input) ++ ascii "\n"
+lineOf input = inputText input (toldInput (inputOf input)) ++ ascii "\n"
+
+-- an input that cannot be read to its end is a bad one
+abbrev pub badLine : List ℕ
+badLine = inputText [] (toldInput Bad) ++ ascii "\n"

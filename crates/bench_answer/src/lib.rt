@@ -1,7 +1,6 @@
 // The bench program's answer to an input: one line, from the leaping run.
-use bench_input::Loaded;
+use bench_input::Input;
 use cabinet::Ran;
-use lines::Numbers;
 use machine::Power;
 use printing::Line;
 ghost use mathlib.Core.Path.{_≡_};
@@ -9,29 +8,21 @@ ghost use lib.ListN.{length};
 ghost use Rattle.power.specs.Power.{powerAnswer};
 ghost use Rattle.cabinet.specs.Answers.{answered};
 ghost use Rattle.printing.specs.Printing.{emptyLine, putsOf};
-ghost use Rattle.bench_answer.specs.Answer.{nothing, numbersOf, stopText, textOf, onPower, unloaded, lineOf};
-
-fn numbers(ran: Ran) -> Numbers
-    ensures { λ r. ⌜ r ≡ numbersOf (answered ran nothing) ⌝ }
-{
-    Numbers {
-        cycles: ran.cycles.0 as u64,
-        instructions: ran.instructions.0 as u64,
-        entries: ran.entries.0 as u64,
-        used: ran.used.0 as u64,
-        sent: ran.sent.0 as u64,
-    }
-}
+ghost use Rattle.bench_answer.specs.Answer.{nothing, stopText, textOf, poweredText, unloaded, lineOf, badLine};
 
 fn stopped(ran: Ran) -> Line
     ensures { λ r. ⌜ r ≡ putsOf emptyLine (stopText (answered ran nothing)) ⌝ }
 {
     let reply = ran.reply;
     let stop = lines::numbered(Line::empty(), b"stop ", reply.number() as u64);
-    lines::registers(
-        lines::counts(stop, numbers(ran)),
-        ran.machine.chip.registers,
-    )
+    let numbers = lines::run_numbers(
+        ran.cycles,
+        ran.instructions,
+        ran.entries,
+        ran.used,
+        ran.sent,
+    );
+    lines::registers(lines::counts(stop, numbers), ran.machine.chip.registers)
 }
 
 // What a run comes to.
@@ -47,7 +38,7 @@ fn report(ran: Ran) -> Line
 
 // Power-on and the leaping run of what was loaded.
 fn powered(session: &[u8], n: u32, r: u32, image: &mut [u8]) -> Line
-    ensures { λ l. ⌜ l ≡ putsOf emptyLine (onPower (now (image .entry)) (now (session .entry)) n (powerAnswer (now (image .entry)) r)) ⌝ }
+    ensures { λ l. ⌜ l ≡ putsOf emptyLine (poweredText (now (image .entry)) (now (session .entry)) n (powerAnswer (now (image .entry)) r)) ⌝ }
 {
     let power = cabinet::power_on(&image[..], r);
     match power {
@@ -68,6 +59,13 @@ fn blank() -> [u8; 65536]
     [0u8; 65536]
 }
 
+// The line for a bad input.
+pub fn bad_line() -> Line
+    ensures { λ r. ⌜ r ≡ putsOf emptyLine badLine ⌝ }
+{
+    lines::refused(10).text(b"\n")
+}
+
 // An input's line.
 pub fn answer(input: &[u8]) -> Line
     ensures { λ r. ⌜ r ≡ putsOf emptyLine (lineOf (now (input .entry))) ⌝ }
@@ -75,7 +73,7 @@ pub fn answer(input: &[u8]) -> Line
     let mut image = blank();
     let loaded = bench_input::load(input, &mut image);
     match loaded {
-        Loaded::Bad => lines::refused(10).text(b"\n"),
-        Loaded::Run { n, r, session } => powered(&input[session..], n, r, &mut image).text(b"\n"),
+        Input::Bad => bad_line(),
+        Input::Run { n, r, session } => powered(&input[session..], n, r, &mut image).text(b"\n"),
     }
 }

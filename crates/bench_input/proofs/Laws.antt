@@ -16,9 +16,9 @@ use Rattle.turns.specs.Turn.{Turn, more, done}
 use Rattle.turns.proofs.Laws.{loop-more, loop-done}
 use Rattle.session.specs.Session.{lengthAt, kindAt, nextAt}
 use Rattle.bench_input.specs.Input.{isWhole, addressAt, bytesAt, isLoad, isRun, afterLoads, storedAt}
-use Rattle.bench_input.specs.Input.{Loading, loadTurn, loadsOf, isGood, runAt, loadedOf, imageOf}
-use Rattle.bench_input.specs.declared.Loaded.{Loaded}
-use Rattle.bench_input.specs.declared.Loaded.the-variants.{Bad, Run}
+use Rattle.bench_input.specs.Input.{Storing, loadTurn, loadsOf, isGood, runAt, inputOf, imageOf}
+use Rattle.bench_input.specs.declared.Input.{Input}
+use Rattle.bench_input.specs.declared.Input.the-variants.{Bad, Run}
 
 pub set-past : (l : List ℕ) (i b : ℕ) → length l ≤ i → set l i b ≡ l
 set-past [] i b h = refl
@@ -89,9 +89,9 @@ module _ (s : List ℕ) where
   unfolding afterLoads
   place-done at e = loop-done _ _ _ place-falls (rw e)
 
-  load-falls : (l k : Loading) → loadTurn s l ≡ more k → length s - k .at < length s - l .at
+  load-falls : (l k : Storing) → loadTurn s l ≡ more k → length s - k .at < length s - l .at
   load-falls l k e =
-      subst (OnMore (λ (x : Loading). length s - x .at < length s - l .at)) e (on-cond _ (isLoad s (l .at)) _ (l .memory) (less (l .at)))
+      subst (OnMore (λ (x : Storing). length s - x .at < length s - l .at)) e (on-cond _ (isLoad s (l .at)) _ (l .memory) (less (l .at)))
 
   pub loads-more : (at : ℕ) (memory : List ℕ) → isLoad s at ≡ true
       → loadsOf s at memory ≡ loadsOf s (nextAt s at) (storedAt memory (addressAt s at) (bytesAt s at))
@@ -116,20 +116,20 @@ module _ (s : List ℕ) where
   unfolding isGood
   run-good h e = rw (le-leb _ _ h, e)
 
-  pub loaded-bad : (image : List ℕ) → isGood s ≡ false → (Bad ≡ loadedOf s) × (image ≡ imageOf s image)
-  unfolding loadedOf imageOf
+  pub loaded-bad : (image : List ℕ) → isGood s ≡ false → (Bad ≡ inputOf s) × (image ≡ imageOf s image)
+  unfolding inputOf imageOf
   loaded-bad image e = rw e (refl, refl)
 
-  pub loaded-run : (image : List ℕ) → isGood s ≡ true → (loadedOf s ≡ runAt s (afterLoads s 0)) × (imageOf s image ≡ loadsOf s 0 image)
-  unfolding loadedOf imageOf
+  pub loaded-run : (image : List ℕ) → isGood s ≡ true → (inputOf s ≡ runAt s (afterLoads s 0)) × (imageOf s image ≡ loadsOf s 0 image)
+  unfolding inputOf imageOf
   loaded-run image e = rw e (refl, refl)
 
   -- a session begins within the input
-  pub session-within : (n r k : ℕ) → loadedOf s ≡ Run n r k → k ≤ length s
-  unfolding loadedOf isGood
+  pub session-within : (n r k : ℕ) → inputOf s ≡ Run n r k → k ≤ length s
+  unfolding inputOf isGood
   session-within n r k e = by (leb (length s) 16384) (isRun s (afterLoads s 0)) refl e
     where
-      place : Loaded → ℕ
+      place : Input → ℕ
       place Bad = 0
       place (Run n r k) = k
 

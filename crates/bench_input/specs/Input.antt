@@ -8,8 +8,8 @@ use lib.Dec.{eqb, leb}
 use Rattle.turns.specs.Turn.{Turn, more, done, loopOf}
 use Rattle.numbers.specs.Numbers.{two, four}
 use Rattle.session.specs.Session.{lengthAt, kindAt, nextAt}
-use Rattle.bench_input.specs.declared.Loaded.{Loaded}
-use Rattle.bench_input.specs.declared.Loaded.the-variants.{Bad, Run}
+use Rattle.bench_input.specs.declared.Input.{Input}
+use Rattle.bench_input.specs.declared.Input.the-variants.{Bad, Run}
 
 -- the record at a place is not cut short
 abbrev pub isWhole : List ℕ → ℕ → Bool
@@ -42,11 +42,11 @@ storedAt memory at [] = memory
 storedAt memory at (b ∷ bs) = storedAt (set memory at b) (at + 1) bs
 
 -- the load records from a place on, each stored over those before it
-pub record Loading : Type 0 where
+pub record Storing : Type 0 where
   pub at : ℕ
   pub memory : List ℕ
 
-abbrev pub loadTurn : List ℕ → Loading → Turn Loading (List ℕ)
+abbrev pub loadTurn : List ℕ → Storing → Turn Storing (List ℕ)
 loadTurn s l =
     cond (isLoad s (l .at))
     (more (record { at = nextAt s (l .at); memory = storedAt (l .memory) (addressAt s (l .at)) (bytesAt s (l .at)) }))
@@ -54,7 +54,7 @@ loadTurn s l =
 
 unfoldable pub loadsOf : List ℕ → ℕ → List ℕ → List ℕ
 loadsOf s at memory =
-    loopOf (loadTurn s) (λ (l : Loading). l .memory) (λ (l : Loading). length s - l .at) (record { at = at; memory = memory })
+    loopOf (loadTurn s) (λ (l : Storing). l .memory) (λ (l : Storing). length s - l .at) (record { at = at; memory = memory })
 
 -- "at most 16,384 bytes: load records .., one run record .., then the session. Anything else before the session, or a longer
 -- input, is reply 10"
@@ -62,11 +62,11 @@ unfoldable pub isGood : List ℕ → Bool
 isGood s = leb (length s) 16384 && isRun s (afterLoads s 0)
 
 -- N, R and where the session begins, of the run record at a place
-abbrev pub runAt : List ℕ → ℕ → Loaded
+abbrev pub runAt : List ℕ → ℕ → Input
 runAt s at = Run (four s at 4) (four s at 8) (nextAt s at)
 
-unfoldable pub loadedOf : List ℕ → Loaded
-loadedOf s = cond (isGood s) (runAt s (afterLoads s 0)) Bad
+unfoldable pub inputOf : List ℕ → Input
+inputOf s = cond (isGood s) (runAt s (afterLoads s 0)) Bad
 
 -- the image after the loading: a bad input leaves it
 unfoldable pub imageOf : List ℕ → List ℕ → List ℕ

@@ -4,10 +4,10 @@ use numbers::two_at;
 ghost use mathlib.Core.Path.{_≡_};
 ghost use Prim.Native.Nat.{_≤_};
 ghost use lib.ListN.{length, set};
-ghost use Rattle.bench_input.specs.Input.{isLoad, isRun, afterLoads, storedAt, loadsOf, loadedOf, imageOf};
+ghost use Rattle.bench_input.specs.Input.{isLoad, isRun, afterLoads, storedAt, loadsOf, inputOf, imageOf};
 
 // What an input holds: N, R and the place where its session begins; or it is bad.
-pub enum Loaded {
+pub enum Input {
     Bad,
     Run { n: u32, r: u32, session: usize },
 }
@@ -81,18 +81,18 @@ fn store_loads(input: &[u8], image: &mut [u8])
 }
 
 // The image is loaded where the input is good, and untouched where it is bad.
-pub fn load(input: &[u8], image: &mut [u8]) -> Loaded
-    ensures { λ r. ⌜ (r ≡ loadedOf (now (input .entry))) × (now (image .exit) ≡ imageOf (now (input .entry)) (now (image .entry))) ⌝ }
+pub fn load(input: &[u8], image: &mut [u8]) -> Input
+    ensures { λ r. ⌜ (r ≡ inputOf (now (input .entry))) × (now (image .exit) ≡ imageOf (now (input .entry)) (now (image .entry))) ⌝ }
 {
     if input.len() > 16384 {
-        return Loaded::Bad;
+        return Input::Bad;
     }
     let at = after_loads(input);
     if !is_run(input, at) {
-        return Loaded::Bad;
+        return Input::Bad;
     }
     store_loads(input, image);
-    Loaded::Run {
+    Input::Run {
         n: four_at(input, at, 4),
         r: four_at(input, at, 8),
         session: session::next_at(input, at),

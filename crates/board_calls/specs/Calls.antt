@@ -54,8 +54,8 @@ abbrev pub namedIn : Option ℕ → List ℕ → List ℕ
 namedIn none result = result
 namedIn (some k) result = over (littleEndian 8 k) result
 
-abbrev pub onRest : List ℕ → List ℕ → rest.Answer → Rest
-onRest buffer result (rest.wrote length) = rested 0 buffer (over (littleEndian 8 length) result)
+abbrev pub onRest : List ℕ → List ℕ → rest.RestReply → Rest
+onRest buffer result (rest.restWrote length) = rested 0 buffer (over (littleEndian 8 length) result)
 onRest buffer result (rest.refuses t) = rested (t .number) buffer (namedIn (t .named) result)
 
 -- the rest of a session: 29 where the result has less than 8 bytes; then 4 to 7, 30 or 31, or 0 and the rest

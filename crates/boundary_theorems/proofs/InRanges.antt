@@ -14,7 +14,7 @@ use Rattle.boundary.specs.World.{Lent, memoriesIn, Terms, World}
 use Rattle.boundary.specs.Boundary.{recordTaken, sentState, enteredWorld, waitedState}
 use Rattle.boundary.specs.Start.{startWorld, ranOf}
 use Rattle.boundary.proofs.Keeps.{Keeps, run-holds}
-use Rattle.boundary_theorems.proofs.Kept.{Ahead, step-ahead, ahead, start-ahead}
+use Rattle.boundary.proofs.Kept.{Ahead, step-ahead, ahead, start-ahead}
 
 abbrev Good : List ℕ → World → Type 0
 Good session w = Ahead session (w .state) × (rangesOf (w .state .machine) ≡ true)

@@ -1,9 +1,8 @@
 pub mod LeapBound
-pub mod Output
-pub mod Kept
 pub mod ReadOnly
 pub mod InRanges
 pub mod Stretches
+pub mod Longest
 pub mod Trace
 pub mod Tallies
 pub mod Worked

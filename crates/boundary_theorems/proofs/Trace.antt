@@ -28,16 +28,16 @@ use Rattle.laws.proofs.Conds.{cases}
 use Rattle.boundary.proofs.Feeding.{records-more, records-done, records-keep}
 use Rattle.boundary.proofs.Runs.{run-falls}
 use Rattle.boundary_theorems.specs.Trace.{Taken, entry, waitingCycle, instruction, isEntry, isInstruction, stepBy, takenBy}
-use Rattle.boundary_theorems.specs.Trace.{Mark, markOf, markIf, marksAt, traceOf, waits, stretchesOf, entriesOf, instructionsOf}
+use Rattle.boundary_theorems.specs.Trace.{TraceMark, markOf, markIf, marksAt, traceOf, waits, stretchesOf, entriesOf, instructionsOf}
 use Rattle.boundary_theorems.proofs.Stretches.{leaps-none, lastWaits, last-snoc, opens, leaps-snoc}
 
 -- the counts of a state are those of the marks so far
-pub record Counted (ms : List Mark) (s : State) : Type 0 where
+pub record Counted (ms : List TraceMark) (s : State) : Type 0 where
   pub leaps : s .leaps .0 ≡ stretchesOf ms
   pub entries : s .entries .0 ≡ entriesOf ms
   pub instructions : s .instructions .0 ≡ instructionsOf ms
 
-counted-more : (ms : List Mark) (x : Mark) (s t : State) → Counted ms s
+counted-more : (ms : List TraceMark) (x : TraceMark) (s t : State) → Counted ms s
     → t .leaps .0 ≡ s .leaps .0 + opens ms x
     → t .entries .0 ≡ s .entries .0 + cond (isEntry (x .taken)) 1 0
     → t .instructions .0 ≡ s .instructions .0 + cond (isInstruction (x .taken)) 1 0
@@ -45,24 +45,24 @@ counted-more : (ms : List Mark) (x : Mark) (s t : State) → Counted ms s
 counted-more ms x s t h l e i =
     record {
       leaps = l ∙ ap (λ (k : ℕ). k + opens ms x) (h .leaps) ∙ sym (leaps-snoc ms x);
-      entries = e ∙ ap (λ (k : ℕ). k + cond (isEntry (x .taken)) 1 0) (h .entries) ∙ sym (total-last (λ (m : Mark). cond (isEntry (m .taken)) 1 0) ms x);
+      entries = e ∙ ap (λ (k : ℕ). k + cond (isEntry (x .taken)) 1 0) (h .entries) ∙ sym (total-last (λ (m : TraceMark). cond (isEntry (m .taken)) 1 0) ms x);
       instructions =
           i
           ∙ ap (λ (k : ℕ). k + cond (isInstruction (x .taken)) 1 0) (h .instructions)
-          ∙ sym (total-last (λ (m : Mark). cond (isInstruction (m .taken)) 1 0) ms x);
+          ∙ sym (total-last (λ (m : TraceMark). cond (isInstruction (m .taken)) 1 0) ms x);
     }
 
 -- `inside` tells that the last mark waits; within a boundary, also that there was no record and no sending so far (q)
-record Follows (ms : List Mark) (q : Bool) (s : State) : Type 0 where
+record Follows (ms : List TraceMark) (q : Bool) (s : State) : Type 0 where
   counted : Counted ms s
   inside : s .inside ≡ (lastWaits ms && q)
 
-abbrev Marked : List Mark → Mark → Turn World Ended → Type 0
+abbrev Marked : List TraceMark → TraceMark → Turn World Ended → Type 0
 Marked ms x = Then (λ v. Follows (ms ++ x ∷ []) true (v .state)) (λ e. Counted ms (e .world .state))
 
 -- steps 4 to 6, at a boundary where a record was applied (a) and a byte sent (b)
-module _ (ms : List Mark) (a b : Bool) (w : World) (h : Follows ms (not a && not b) (w .state)) where
-  abbrev mark : Taken → Mark
+module _ (ms : List TraceMark) (a b : Bool) (w : World) (h : Follows ms (not a && not b) (w .state)) where
+  abbrev mark : Taken → TraceMark
   mark t = record { applied = a; sent = b; taken = t }
 
   after : (t : Taken) (s : State) → Counted (ms ++ mark t ∷ []) s → s .inside ≡ waits (mark t) → Follows (ms ++ mark t ∷ []) true s
@@ -96,7 +96,7 @@ module _ (ms : List Mark) (a b : Bool) (w : World) (h : Follows ms (not a && not
 
 -- step 2 keeps the counts, and tells by `inside` whether there was a record
 module _ (session : List ℕ) (w : World) where
-  records-counted : (ms : List Mark) → Counted ms (w .state) → Counted ms (fedWorld session w .state)
+  records-counted : (ms : List TraceMark) → Counted ms (w .state) → Counted ms (fedWorld session w .state)
   unfolding recordTaken
   records-counted ms h =
       records-keep session (memoriesIn (w .lent)) (Counted ms)
@@ -122,7 +122,7 @@ module _ (session : List ℕ) (w : World) where
 
 module _ (t : Terms) where
   -- a boundary
-  turn-marked : (ms : List Mark) (w : World) → Follows ms true (w .state) → Marked ms (markOf (t .session) w) (boundaryOf t w)
+  turn-marked : (ms : List TraceMark) (w : World) → Follows ms true (w .state) → Marked ms (markOf (t .session) w) (boundaryOf t w)
   unfolding boundaryOf sendOf markOf sentState
   turn-marked ms w h =
       cases (Marked ms (markOf (t .session) w)) (leb (t .limit) (w .state .cycles .0)) (λ _. h .counted) (λ _. by (sendsOf (r .state)))
@@ -149,7 +149,7 @@ module _ (t : Terms) where
       full : Bool
       full = leb (length (w .lent .output)) (r .state .sent .0)
 
-      mark : Bool → Mark
+      mark : Bool → TraceMark
       mark b = record { applied = d; sent = b; taken = takenBy (cond b (sentState (r .state)) (r .state) .machine) }
 
       by : (b : Bool) → Marked ms (mark b) (cond b (cond full (done (endedOf Full r)) (actOf (sentWorld r))) (actOf r))
@@ -163,10 +163,10 @@ module _ (t : Terms) where
           (record { counted = c; inside = records-inside (t .session) w ∙ ap (λ (i : Bool). i && not d) (h .inside) ∙ rests (lastWaits ms) d })
 
   -- with no mark at the last
-  marked : (ms : List Mark) (m : Mark) (x : Turn World Ended) → Marked ms m x
+  marked : (ms : List TraceMark) (m : TraceMark) (x : Turn World Ended) → Marked ms m x
       → Then (λ v. Follows (ms ++ markIf x m) true (v .state)) (λ e. Counted (ms ++ markIf x m) (e .world .state)) x
   marked ms m (more v) h = h
-  marked ms m (done e) h = subst (λ (l : List Mark). Counted l (e .world .state)) (sym (append-nil ms)) h
+  marked ms m (done e) h = subst (λ (l : List TraceMark). Counted l (e .world .state)) (sym (append-nil ms)) h
 
   -- a run's counts are those of its trace
   trace-counted : (w : World) → Follows [] true (w .state) → Counted (traceOf t w) (runOf t w .world .state)

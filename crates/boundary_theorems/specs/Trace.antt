@@ -2,7 +2,8 @@
 -- (step 5) with no record, sending or interrupt at the boundary where any but the first of them begins."
 use Prim.Native.Nat.{ℕ}
 use mathlib.Core.Bool.{Bool, true, false, not, cond, _&&_}
-use mathlib.Core.List.{List, [], _∷_}
+use mathlib.Core.List.{List, [], _∷_, _++_}
+use mathlib.Core.Path.{_≡_}
 use Rattle.turns.specs.Turn.{Turn, more, done}
 use Rattle.turns.specs.Recorded.{rowsOf, countOf}
 use Rattle.registers.specs.Registers.{idles}
@@ -27,12 +28,12 @@ abbrev pub takenBy : Machine → Taken
 takenBy m = stepBy (pendingOf m) (idles (m .chip .registers))
 
 -- what a boundary that goes on did: whether a record was applied there, whether a byte was sent there, and its step
-pub record Mark : Type 0 where
+pub record TraceMark : Type 0 where
   pub applied : Bool
   pub sent : Bool
   pub taken : Taken
 
-unfoldable pub markOf : List ℕ → World → Mark
+unfoldable pub markOf : List ℕ → World → TraceMark
 markOf session w =
     let s = fedWorld session w .state in
     record {
@@ -42,14 +43,14 @@ markOf session w =
     }
 
 -- The marks of a run, one for each boundary that goes on.
-abbrev pub markIf : Turn World Ended → Mark → List Mark
+abbrev pub markIf : Turn World Ended → TraceMark → List TraceMark
 markIf (more v) mark = mark ∷ []
 markIf (done e) mark = []
 
-abbrev pub marksAt : Terms → World → List Mark
+abbrev pub marksAt : Terms → World → List TraceMark
 marksAt t w = markIf (boundaryOf t w) (markOf (t .session) w)
 
-unfoldable pub traceOf : Terms → World → List Mark
+unfoldable pub traceOf : Terms → World → List TraceMark
 traceOf t w = rowsOf (boundaryOf t) (cyclesLeft t) (marksAt t) w
 
 -- "waiting cycles (step 5)"
@@ -68,40 +69,57 @@ isInstruction entry = false
 isInstruction waitingCycle = false
 isInstruction instruction = true
 
-abbrev pub waits : Mark → Bool
+abbrev pub waits : TraceMark → Bool
 waits m = isWaiting (m .taken)
 
 -- a waiting cycle "with no record, sending or interrupt at the boundary where [it] begins"
-abbrev pub quiet : Mark → Bool
+abbrev pub quiet : TraceMark → Bool
 quiet m = waits m && (not (m .applied) && not (m .sent))
 
 -- a list of marks is a stretch where it is "one or more waiting cycles", and "any but the first" is quiet
-abbrev pub every : (Mark → Bool) → List Mark → Bool
+abbrev pub every : (TraceMark → Bool) → List TraceMark → Bool
 every test [] = true
 every test (m ∷ ms) = test m && every test ms
 
-abbrev pub isStretch : List Mark → Bool
+abbrev pub isStretch : List TraceMark → Bool
 isStretch [] = false
 isStretch (m ∷ ms) = waits m && every quiet ms
 
--- The marks in groups, cut wherever two neighbours are in no stretch together: so that no stretch goes over a cut, and the
--- groups that are stretches are the longest ones.
-abbrev pub joins : Mark → List (List Mark) → List (List Mark)
+-- The marks in groups, cut wherever two neighbours are in no stretch together: the groups that are stretches are the longest ones
+-- (proofs/Longest.antt: `longest-groups`).
+abbrev pub joins : TraceMark → List (List TraceMark) → List (List TraceMark)
 joins m [] = (m ∷ []) ∷ []
 joins m ([] ∷ gs) = (m ∷ []) ∷ gs
 joins m ((x ∷ g) ∷ gs) = cond (isStretch (m ∷ x ∷ [])) ((m ∷ x ∷ g) ∷ gs) ((m ∷ []) ∷ (x ∷ g) ∷ gs)
 
-abbrev pub groups : List Mark → List (List Mark)
+abbrev pub groups : List TraceMark → List (List TraceMark)
 groups [] = []
 groups (m ∷ ms) = joins m (groups ms)
 
+-- a part of the marks, with those before and those after it, is "a longest stretch": it is a stretch, and no stretch has it and more in it
+pub record Longest (before part after : List TraceMark) : Type 0 where
+  pub stretch : isStretch part ≡ true
+  pub alone : (a b c d : List TraceMark) → before ≡ a ++ b → after ≡ c ++ d → isStretch (b ++ part ++ c) ≡ true → (b ≡ []) × (c ≡ [])
+
+-- it is one of the groups
+abbrev pub flat : List (List TraceMark) → List TraceMark
+flat [] = []
+flat (g ∷ gs) = g ++ flat gs
+
+pub record Group (before part after : List TraceMark) : Type 0 where
+  pub earlier : List (List TraceMark)
+  pub later : List (List TraceMark)
+  pub cut : groups (before ++ part ++ after) ≡ earlier ++ part ∷ later
+  pub before-it : flat earlier ≡ before
+  pub after-it : flat later ≡ after
+
 -- "The leaping run reports how many there were."
-unfoldable pub stretchesOf : List Mark → ℕ
+unfoldable pub stretchesOf : List TraceMark → ℕ
 stretchesOf ms = countOf isStretch (groups ms)
 
 -- the interrupt entries and the instructions among them
-abbrev pub entriesOf : List Mark → ℕ
-entriesOf ms = countOf (λ (m : Mark). isEntry (m .taken)) ms
+abbrev pub entriesOf : List TraceMark → ℕ
+entriesOf ms = countOf (λ (m : TraceMark). isEntry (m .taken)) ms
 
-abbrev pub instructionsOf : List Mark → ℕ
-instructionsOf ms = countOf (λ (m : Mark). isInstruction (m .taken)) ms
+abbrev pub instructionsOf : List TraceMark → ℕ
+instructionsOf ms = countOf (λ (m : TraceMark). isInstruction (m .taken)) ms

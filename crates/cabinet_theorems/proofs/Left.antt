@@ -14,8 +14,8 @@ use Rattle.boundary_theorems.specs.Trace as trace
 use Rattle.turns.specs.Recorded.{total}
 use Rattle.boundary_theorems.specs.Tallies.{Tally, talliesOf}
 use Rattle.boundary_theorems.proofs.LeapBound.{leap-bound}
-use Rattle.boundary_theorems.proofs.Output.{filled-part}
-use Rattle.boundary_theorems.proofs.Kept.{image-length, cycles-bound}
+use Rattle.boundary.proofs.Output.{filled-part}
+use Rattle.boundary.proofs.Kept.{image-length, cycles-bound}
 use Rattle.boundary_theorems.proofs.InRanges.{run-ranges}
 use Rattle.boundary_theorems.proofs.Trace.{counts-told}
 use Rattle.boundary_theorems.proofs.Tallies.{amounts-told}

@@ -16,15 +16,15 @@ use Rattle.boundary.specs.declared.Stop.the-variants.{Limit, Undefined, Full}
 use Rattle.boundary.specs.World.{Lent, withOutput, Terms, terms, World}
 use Rattle.boundary.specs.Boundary.{runOf}
 use Rattle.boundary.specs.Start.{startWorld, ranOf}
-use Rattle.boundary_theorems.proofs.Kept.{image-length}
-use Rattle.boundary_theorems.proofs.Output.{filled-part}
+use Rattle.boundary.proofs.Kept.{image-length}
+use Rattle.boundary.proofs.Output.{filled-part}
 use Rattle.boundary_theorems.proofs.InRanges.{run-ranges}
 use Rattle.cabinet.specs.declared.Ran.{Ran}
 use Rattle.cabinet.specs.Answers.{toldStop, End, endAt, endOf, Answer, answerAt, answered, answerOf, leapsOf}
 use Rattle.cabinet_theorems.proofs.Exactly.{Admitted, admitted-end, reply-0}
 use Rattle.cabinet_theorems.proofs.Settled.{Single}
 use Rattle.rest.specs.Rest.{restOf}
-use Rattle.rest.specs.Answers.{wrote, restAnswer, restBuffer}
+use Rattle.rest.specs.Answers.{restWrote, restAnswer, restBuffer}
 use Rattle.rest.proofs.Exactly.{rest-written, rest-left}
 use Rattle.composing.specs.Joined.{termsAfter, lentAfter, joined}
 use Rattle.composing.proofs.Raised.{raised, apart-most}
@@ -146,7 +146,7 @@ module _ (session : List ℕ) (n₁ n : ℕ) (m : Machine) (given : Lent) where
         let r = restOf session used cycles in
         (length r ≤ length session)
         × (length r ≤ length buffer
-        → (restAnswer session used cycles buffer ≡ wrote (length r)) × (take (length r) (restBuffer session used cycles buffer) ≡ r))
+        → (restAnswer session used cycles buffer ≡ restWrote (length r)) × (take (length r) (restBuffer session used cycles buffer) ≡ r))
 
     pub rest-given : (buffer : List ℕ) → Fits buffer (firstAnswer .used) (firstAnswer .cycles)
     rest-given buffer =

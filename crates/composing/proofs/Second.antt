@@ -15,8 +15,8 @@ use Rattle.boundary.specs.World.{Lent, withOutput, Terms, terms, World, Ended, 
 use Rattle.boundary.specs.Boundary.{recordTaken, sentState, enteredWorld, waitedState, runOf}
 use Rattle.boundary.specs.Start.{startWorld, ranOf}
 use Rattle.boundary.proofs.Keeps.{Keeps, run-holds}
-use Rattle.boundary_theorems.proofs.Kept.{place-within}
-use Rattle.boundary_theorems.proofs.Output.{filled-part}
+use Rattle.boundary.proofs.Kept.{place-within}
+use Rattle.boundary.proofs.Output.{filled-part}
 use Rattle.rest.specs.Rest.{placeOf, restFrom, restOf}
 use Rattle.rest.specs.Ahead.{SoundFrom}
 use Rattle.rest.proofs.Places.{place-next, place-sound}

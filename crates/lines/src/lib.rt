@@ -1,4 +1,9 @@
 // The words that the programs' lines share: counts, registers and refusals.
+use counts::Cycles;
+use counts::Entries;
+use counts::Instructions;
+use counts::Records;
+use counts::Sent;
 use printing::Line;
 use registers::Registers;
 use replies::Reply;
@@ -7,7 +12,7 @@ ghost use mathlib.Core.List.{_++_};
 ghost use mathlib.Core.Option.{none, some};
 ghost use Rattle.printing.specs.Printing.{decimalOf, hexadecimalOf, emptyLine, putsOf};
 ghost use Rattle.replies.specs.Replies.{toldReply};
-ghost use Rattle.lines.specs.Lines.{countsText, registersText, refusedText, refusal};
+ghost use Rattle.lines.specs.Lines.{numbersOf, countsText, registersText, refusedText, refusal};
 
 // The counts that every line of a run tells.
 pub struct Numbers {
@@ -16,6 +21,25 @@ pub struct Numbers {
     pub entries: u64,
     pub used: u64,
     pub sent: u64,
+}
+
+// The counts of one run.
+pub fn run_numbers(
+    cycles: Cycles,
+    instructions: Instructions,
+    entries: Entries,
+    used: Records,
+    sent: Sent,
+) -> Numbers
+    ensures { λ r. ⌜ r ≡ numbersOf (cycles .0) (instructions .0) (entries .0) (used .0) (sent .0) ⌝ }
+{
+    Numbers {
+        cycles: cycles.0 as u64,
+        instructions: instructions.0 as u64,
+        entries: entries.0 as u64,
+        used: used.0 as u64,
+        sent: sent.0 as u64,
+    }
 }
 
 // A word and a number.
@@ -78,16 +102,9 @@ pub fn refused_record(number: u8, named: usize) -> Line
 pub fn refusal_line(reply: Reply) -> Line
     ensures { λ r. ⌜ r ≡ putsOf emptyLine (refusal (toldReply reply)) ⌝ }
 {
-    match reply {
-        Reply::Limit => refused(0),
-        Reply::WrongImage => refused(1),
-        Reply::WrongMachine => refused(2),
-        Reply::WrongLimit => refused(3),
-        Reply::Length(k) => refused_record(4, k),
-        Reply::Kind(k) => refused_record(5, k),
-        Reply::Value(k) => refused_record(6, k),
-        Reply::Time(k) => refused_record(7, k),
-        Reply::Undefined => refused(8),
-        Reply::Full => refused(9),
+    let number = reply.number();
+    if (number >= 4) & (number <= 7) {
+        return refused_record(number, reply.record());
     }
+    refused(number)
 }

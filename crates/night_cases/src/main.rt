@@ -88,6 +88,7 @@ fn main() {
     show_number(b"0");
     show_number(b"4294967295");
     show_number(b"4294967296");
+    show_number(b"00000000000042");
     show_number(b"12x");
     show_number(b"-1");
     show_joined(b"a", b".new");

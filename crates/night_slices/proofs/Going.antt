@@ -22,7 +22,7 @@ use Rattle.boundary.specs.declared.Stop.{Stop}
 use Rattle.boundary.specs.declared.Stop.the-variants.{Limit, Undefined, Full}
 use Rattle.boundary.specs.World.{Lent, withOutput, Terms, terms, stopNumber}
 use Rattle.boundary.specs.Start.{startWorld, ranOf}
-use Rattle.boundary_theorems.proofs.Kept as kept
+use Rattle.boundary.proofs.Kept as kept
 use Rattle.cabinet.specs.Answers.{answerOf}
 use Rattle.cabinet.proofs.Ends.{end-cases}
 use Rattle.rest.specs.Rest.{restOf}

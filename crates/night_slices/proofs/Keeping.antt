@@ -11,7 +11,7 @@ use Rattle.session.specs.Session.{checkOf}
 use Rattle.session.specs.declared.Checked.the-variants.{Sound}
 use Rattle.replies.specs.Replies.{Told, stops}
 use Rattle.rest.specs.Rest.{placeOf, restOf}
-use Rattle.rest.specs.Answers.{wrote, toldRest, restAnswer, restBuffer}
+use Rattle.rest.specs.Answers.{restWrote, toldRest, restAnswer, restBuffer}
 use Rattle.rest.specs.declared.Rested.{Rested}
 use Rattle.rest.proofs.Places.{place-sound}
 use Rattle.rest.proofs.Laws.{rest-length}
@@ -37,7 +37,7 @@ module _ (s : List ℕ) (u c : ℕ) where
       (λ e h k. sym (rest-written s u c s (length rest) .1 ((e, h, fits e h), refl)))
 
   -- a rest that was written: how long it is, and where it stands after it was copied to the session's front
-  module _ (b : List ℕ) {n : ℕ} (e : wrote n ≡ restAnswer s u c b) where
+  module _ (b : List ℕ) {n : ℕ} (e : restWrote n ≡ restAnswer s u c b) where
     pub written-fits : n ≤ length s
     written-fits =
         let w = rest-written s u c b n .0 (sym e) in
@@ -77,7 +77,7 @@ module _ (size : ℕ) (session spare : List ℕ) (h : size ≤ length session) (
       → onKeep t had (restOf had u c) (toldRest r) ≡ keepingOf t had u c
   keeps-had t e r f = keeps-rest had u c t e spare short r f
 
-  module _ {n : ℕ} (e : wrote n ≡ restAnswer had u c spare) where
+  module _ {n : ℕ} (e : restWrote n ≡ restAnswer had u c spare) where
     pub written-size : n ≤ size
     written-size =
         let l = length-take-le size session h in

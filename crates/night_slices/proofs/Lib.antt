@@ -1,3 +1,4 @@
 pub mod Keeping
 pub mod Going
 pub mod Sliced
+pub mod Shown

@@ -1,4 +1,4 @@
--- The law of one slice: the run's answer, the session that was kept and the sums, put together. Assumes nothing.
+-- The law of one slice: the run's answer, the session that was kept and the sums, put roundSum. Assumes nothing.
 use Prim.Native.Nat.{ℕ, _+_, _-_, _≤_, _<_}
 use native.Mathlib.Nat.{le-of-eq}
 use native.Mathlib.Omega.{arith}
@@ -7,13 +7,13 @@ use mathlib.Core.Path.{_≡_, refl, sym, ap, _∙_}
 use lib.ListN.{length, take, drop, length-drop, drop-of-length-le}
 use Rattle.replies.specs.Replies.{toldReply}
 use Rattle.boundary.specs.World.{lent, Lent, withOutput, terms}
-use Rattle.boundary_theorems.proofs.Output.{filled-part}
+use Rattle.boundary.proofs.Output.{filled-part}
 use Rattle.cabinet.specs.declared.Leapt.{Leapt}
 use Rattle.cabinet.specs.Answers.{Answer, answered, answerOf, leapsOf}
 use Rattle.cabinet.proofs.Ends.{left-cases}
 use Rattle.night_slices.specs.declared.Kept.{Kept}
 use Rattle.night_slices.specs.declared.Night.{Night}
-use Rattle.night_slices.specs.Slices.{sliceCycles, Standing, together, Keeping, keepingOf, afterOf, sliceOf, kept, standing, nextOf}
+use Rattle.night_slices.specs.Slices.{sliceCycles, Standing, roundSum, Keeping, keepingOf, afterOf, sliceOf, kept, standing, nextOf}
 
 -- a list whose end from a place on was changed
 pub put-end : (k : ℕ) (s t : List ℕ) → take k s ++ (t ++ drop (length s - k) (drop k s)) ≡ take k s ++ t
@@ -30,13 +30,13 @@ withKept s a leaps k =
       lent = withOutput (a .lent) (take (s .sent) (s .lent .output) ++ a .lent .output);
       session = k .session;
       left = s .left - a .cycles;
-      slices = together (s .slices) 1;
-      cycles = together (s .cycles) (a .cycles);
-      instructions = together (s .instructions) (a .instructions);
-      entries = together (s .entries) (a .entries);
-      used = together (s .used) (a .used);
+      slices = roundSum (s .slices) 1;
+      cycles = roundSum (s .cycles) (a .cycles);
+      instructions = roundSum (s .instructions) (a .instructions);
+      entries = roundSum (s .entries) (a .entries);
+      used = roundSum (s .used) (a .used);
       sent = s .sent + a .sent;
-      leaps = together (s .leaps) leaps;
+      leaps = roundSum (s .leaps) leaps;
     }
 
 module _ (n : Night) (l : Leapt) (image session output : List ℕ) {c : ℕ} {part image′ part′ : List ℕ}

@@ -13,13 +13,13 @@ use Rattle.cabinet.specs.declared.Ran.{Ran}
 use Rattle.cabinet.specs.declared.Leapt.{Leapt}
 use Rattle.cabinet.specs.Answers.{Answer, answerOf, leapsOf}
 use Rattle.rest.specs.Rest.{restOf}
-use Rattle.rest.specs.Answers.{wrote, refuses, restAnswer}
-use Rattle.rest.specs.Answers as rest
+use Rattle.rest.specs.Answers.{RestReply, restWrote, refuses, restAnswer}
 use Rattle.lines.specs.declared.Numbers.{Numbers}
+use Rattle.lines.specs.Lines.{numbersOf}
 use Rattle.printing.specs.Printing.{ascii}
 use Rattle.night_lines.specs.NightLines.{endText}
-use Rattle.night_slices.specs.declared.Ended.{Ended}
-use Rattle.night_slices.specs.declared.Ended.the-variants as ended
+use Rattle.night_slices.specs.declared.SliceEnd.{SliceEnd}
+use Rattle.night_slices.specs.declared.SliceEnd.the-variants as ended
 use Rattle.night_slices.specs.declared.Kept.{Kept}
 use Rattle.night_slices.specs.declared.Night.{Night}
 
@@ -44,8 +44,8 @@ pub record Standing : Type 0 where
   pub leaps : ℕ
 
 -- a sum of counts goes round at 2^64
-abbrev pub together : ℕ → ℕ → ℕ
-together a b = (a + b) % 2 ^ 64
+abbrev pub roundSum : ℕ → ℕ → ℕ
+roundSum a b = (a + b) % 2 ^ 64
 
 -- "keeps the rest of the session": after a run that stopped, the rest of what it had; where crate rest refuses, given a buffer as long as the
 -- session, its reply and the session as it was; after a refused run the session as it was
@@ -56,8 +56,8 @@ pub record Keeping : Type 0 where
 abbrev pub keeping : Told → List ℕ → Keeping
 keeping t session = record { told = t; session = session }
 
-abbrev pub onKeep : Told → List ℕ → List ℕ → rest.Answer → Keeping
-onKeep t session left (wrote n) = keeping t left
+abbrev pub onKeep : Told → List ℕ → List ℕ → RestReply → Keeping
+onKeep t session left (restWrote n) = keeping t left
 onKeep t session left (refuses u) = keeping u session
 
 unfoldable pub keepingOf : Told → List ℕ → ℕ → ℕ → Keeping
@@ -74,13 +74,13 @@ afterOf s a leaps =
       lent = withOutput (a .lent) (take (s .sent) (s .lent .output) ++ a .lent .output);
       session = k .session;
       left = s .left - a .cycles;
-      slices = together (s .slices) 1;
-      cycles = together (s .cycles) (a .cycles);
-      instructions = together (s .instructions) (a .instructions);
-      entries = together (s .entries) (a .entries);
-      used = together (s .used) (a .used);
+      slices = roundSum (s .slices) 1;
+      cycles = roundSum (s .cycles) (a .cycles);
+      instructions = roundSum (s .instructions) (a .instructions);
+      entries = roundSum (s .entries) (a .entries);
+      used = roundSum (s .used) (a .used);
       sent = s .sent + a .sent;
-      leaps = together (s .leaps) leaps;
+      leaps = roundSum (s .leaps) leaps;
     }
 
 -- one slice: the run of what is left, on the part of the output that is not filled
@@ -129,23 +129,23 @@ nightOf asked m given room =
 unfoldable pub nightText : Standing → List ℕ
 nightText s =
     endText (s .told) (s .slices)
-    (record { cycles = s .cycles; instructions = s .instructions; entries = s .entries; used = s .used; sent = s .sent })
+    (numbersOf (s .cycles) (s .instructions) (s .entries) (s .used) (s .sent))
     (s .leaps) (s .machine .chip .registers)
     ++ ascii "\n"
 
 -- the code's results, in these words: the session is the first so many bytes of its buffer
-abbrev pub toldEnded : Ended → Told
-toldEnded (ended.Ran r) = toldReply r
-toldEnded ended.TooFew = told 30 none
-toldEnded ended.NoRoom = told 31 none
+abbrev pub toldSliceEnd : SliceEnd → Told
+toldSliceEnd (ended.Ran r) = toldReply r
+toldSliceEnd ended.TooFew = told 30 none
+toldSliceEnd ended.NoRoom = told 31 none
 
 abbrev pub kept : Kept → List ℕ → Keeping
-kept k session = keeping (toldEnded (k .ended)) (take (k .length) session)
+kept k session = keeping (toldSliceEnd (k .ended)) (take (k .length) session)
 
 abbrev pub standing : Night → Lent → List ℕ → Standing
 standing n given session =
     record {
-      told = toldEnded (n .ended);
+      told = toldSliceEnd (n .ended);
       machine = n .machine;
       lent = given;
       session = take (n .length) session;
@@ -160,12 +160,11 @@ standing n given session =
     }
 
 -- a slice's numbers, for its line
-abbrev pub numbersOf : Ran → Numbers
-numbersOf r =
-    record { cycles = r .cycles .0; instructions = r .instructions .0; entries = r .entries .0; used = r .used .0; sent = r .sent .0 }
+abbrev pub ranNumbers : Ran → Numbers
+ranNumbers r = numbersOf (r .cycles .0) (r .instructions .0) (r .entries .0) (r .used .0) (r .sent .0)
 
 -- the night at its start, and after a slice, as the code has them
-abbrev pub beginning : Ended → Machine → ℕ → ℕ → Night
+abbrev pub beginning : SliceEnd → Machine → ℕ → ℕ → Night
 beginning e m size n =
     record {
       ended = e;
@@ -190,10 +189,10 @@ nextOf n l k =
       length = k .length;
       left = n .left - r .cycles .0;
       sent = n .sent + r .sent .0;
-      slices = record { 0 = together (n .slices .0) 1 };
-      cycles = record { 0 = together (n .cycles .0) (r .cycles .0) };
-      instructions = record { 0 = together (n .instructions .0) (r .instructions .0) };
-      entries = record { 0 = together (n .entries .0) (r .entries .0) };
-      used = record { 0 = together (n .used .0) (r .used .0) };
-      leaps = record { 0 = together (n .leaps .0) (l .leaps .0) };
+      slices = record { 0 = roundSum (n .slices .0) 1 };
+      cycles = record { 0 = roundSum (n .cycles .0) (r .cycles .0) };
+      instructions = record { 0 = roundSum (n .instructions .0) (r .instructions .0) };
+      entries = record { 0 = roundSum (n .entries .0) (r .entries .0) };
+      used = record { 0 = roundSum (n .used .0) (r .used .0) };
+      leaps = record { 0 = roundSum (n .leaps .0) (l .leaps .0) };
     }

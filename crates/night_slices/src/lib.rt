@@ -19,11 +19,11 @@ ghost use Rattle.replies.specs.Replies.{told, toldReply, stops};
 ghost use Rattle.boundary.specs.World.{lent, terms};
 ghost use Rattle.printing.specs.Printing.{emptyLine, putsOf};
 ghost use Rattle.night_lines.specs.NightLines.{sliceText, endText};
-ghost use Rattle.night_slices.specs.Slices.{sliceCycles, keepingOf, kept, toldEnded, numbersOf, standing, beginning, nextOf};
+ghost use Rattle.night_slices.specs.Slices.{sliceCycles, keepingOf, kept, toldSliceEnd, ranNumbers, standing, beginning, nextOf};
 ghost use Rattle.night_slices.specs.Slices.{sliceOf, goesOn, nightOf, nightText};
 
 // How a slice ended: with the run's reply, or the session has fewer records than were used, or there is no room for the rest.
-pub enum Ended {
+pub enum SliceEnd {
     Ran(Reply),
     TooFew,
     NoRoom,
@@ -45,7 +45,7 @@ pub struct NightLeaps(pub u64);
 // A night between slices: `length` bytes of the session's buffer are its rest, `left` cycles are still to run, and the first `sent`
 // bytes of the output are filled.
 pub struct Night {
-    pub ended: Ended,
+    pub ended: SliceEnd,
     pub machine: Machine,
     pub length: usize,
     pub left: u32,
@@ -60,7 +60,7 @@ pub struct Night {
 
 // How a slice ended, and how many bytes the rest of its session has.
 struct Kept {
-    ended: Ended,
+    ended: SliceEnd,
     length: usize,
 }
 
@@ -84,26 +84,20 @@ pub fn left_after(left: u32, cycles: Cycles) -> u32
     if left < cycles.0 { 0 } else { left - cycles.0 }
 }
 
-// A slice's numbers.
-fn numbers(ran: Ran) -> Numbers
-    ensures { λ r. ⌜ r ≡ numbersOf ran ⌝ }
-{
-    Numbers {
-        cycles: ran.cycles.0 as u64,
-        instructions: ran.instructions.0 as u64,
-        entries: ran.entries.0 as u64,
-        used: ran.used.0 as u64,
-        sent: ran.sent.0 as u64,
-    }
-}
-
 // A slice's line.
 fn slice_line(number: u64, leapt: Leapt) -> Line
-    ensures { λ r. ⌜ r ≡ putsOf emptyLine (sliceText number (toldReply (leapt .ran .reply) .number) (numbersOf (leapt .ran)) (leapt .leaps .0)) ⌝ }
+    ensures { λ r. ⌜ r ≡ putsOf emptyLine (sliceText number (toldReply (leapt .ran .reply) .number) (ranNumbers (leapt .ran)) (leapt .leaps .0)) ⌝ }
 {
     let ran = leapt.ran;
     let reply = ran.reply;
-    night_lines::slice_line(number, reply.number(), numbers(ran), leapt.leaps.0 as u64)
+    let numbers = lines::run_numbers(
+        ran.cycles,
+        ran.instructions,
+        ran.entries,
+        ran.used,
+        ran.sent,
+    );
+    night_lines::slice_line(number, reply.number(), numbers, leapt.leaps.0 as u64)
 }
 
 // A slice's line is printed, where its run was not refused.
@@ -130,7 +124,7 @@ fn keep(
 {
     if !reply.is_stop() {
         return Kept {
-            ended: Ended::Ran(reply),
+            ended: SliceEnd::Ran(reply),
             length: size,
         };
     }
@@ -139,59 +133,59 @@ fn keep(
         Rested::Written(n) => {
             bytes::copy(&spare[..n], session);
             Kept {
-                ended: Ended::Ran(reply),
+                ended: SliceEnd::Ran(reply),
                 length: n,
             }
         }
         Rested::Bad(fault) => Kept {
-            ended: Ended::Ran(replies::refusal(fault)),
+            ended: SliceEnd::Ran(replies::refusal(fault)),
             length: size,
         },
         Rested::TooFew => Kept {
-            ended: Ended::TooFew,
+            ended: SliceEnd::TooFew,
             length: size,
         },
         Rested::NoRoom => Kept {
-            ended: Ended::NoRoom,
+            ended: SliceEnd::NoRoom,
             length: size,
         },
     }
 }
 
-fn stops_with(ended: Ended) -> bool
-    ensures { λ r. ⌜ r ≡ stops (toldEnded ended .number) ⌝ }
+fn stops_with(ended: SliceEnd) -> bool
+    ensures { λ r. ⌜ r ≡ stops (toldSliceEnd ended .number) ⌝ }
 {
     match ended {
-        Ended::TooFew => false,
-        Ended::NoRoom => false,
-        Ended::Ran(reply) => reply.is_stop(),
+        SliceEnd::TooFew => false,
+        SliceEnd::NoRoom => false,
+        SliceEnd::Ran(reply) => reply.is_stop(),
     }
 }
 
-fn at_limit(ended: Ended) -> bool
-    ensures { λ r. ⌜ r ≡ eqb (toldEnded ended .number) 0 ⌝ }
+fn at_limit(ended: SliceEnd) -> bool
+    ensures { λ r. ⌜ r ≡ eqb (toldSliceEnd ended .number) 0 ⌝ }
 {
     match ended {
-        Ended::TooFew => false,
-        Ended::NoRoom => false,
-        Ended::Ran(reply) => reply.number() == 0,
+        SliceEnd::TooFew => false,
+        SliceEnd::NoRoom => false,
+        SliceEnd::Ran(reply) => reply.number() == 0,
     }
 }
 
 // What a night that ended so tells.
-fn closing(ended: Ended, slices: u64, n: Numbers, leaps: u64, c: Registers) -> Line
-    ensures { λ r. ⌜ r ≡ putsOf emptyLine (endText (toldEnded ended) slices n leaps c) ⌝ }
+fn closing(ended: SliceEnd, slices: u64, n: Numbers, leaps: u64, c: Registers) -> Line
+    ensures { λ r. ⌜ r ≡ putsOf emptyLine (endText (toldSliceEnd ended) slices n leaps c) ⌝ }
 {
     match ended {
-        Ended::TooFew => lines::refused(30),
-        Ended::NoRoom => lines::refused(31),
-        Ended::Ran(reply) => night_lines::end_line(reply, slices, n, leaps, c),
+        SliceEnd::TooFew => lines::refused(30),
+        SliceEnd::NoRoom => lines::refused(31),
+        SliceEnd::Ran(reply) => night_lines::end_line(reply, slices, n, leaps, c),
     }
 }
 
 impl Night {
     // A night at its start.
-    fn start(ended: Ended, m: Machine, size: usize, n: u32) -> Night
+    fn start(ended: SliceEnd, m: Machine, size: usize, n: u32) -> Night
         ensures { λ r. ⌜ r ≡ beginning ended m size n ⌝ }
     {
         Night {
@@ -245,7 +239,7 @@ impl Night {
 
     // Whether the night ran and stopped, with 0, 8 or 9: it was not refused.
     pub fn has_stopped(self) -> bool
-        ensures { λ r. ⌜ r ≡ stops (toldEnded (self .ended) .number) ⌝ }
+        ensures { λ r. ⌜ r ≡ stops (toldSliceEnd (self .ended) .number) ⌝ }
     {
         let ended = self.ended;
         stops_with(ended)
@@ -319,9 +313,9 @@ pub fn run_night(
 {
     let size = least(size, session.len());
     if spare.len() < size {
-        return Night::start(Ended::NoRoom, m, size, n);
+        return Night::start(SliceEnd::NoRoom, m, size, n);
     }
-    let mut night = Night::start(Ended::Ran(Reply::Limit), m, size, n);
+    let mut night = Night::start(SliceEnd::Ran(Reply::Limit), m, size, n);
     loop {
         night = slice(image, session, output, spare, night);
         if !night.goes_on() {

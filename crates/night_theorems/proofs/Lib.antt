@@ -1,1 +1,3 @@
 pub mod OneRun
+pub mod Sums
+pub mod Settled

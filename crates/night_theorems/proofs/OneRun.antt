@@ -25,17 +25,17 @@ use Rattle.boundary.specs.Boundary.{fedWorld, sendOf, boundaryOf, runOf}
 use Rattle.boundary.specs.Start.{startWorld, ranOf}
 use Rattle.boundary.proofs.Cases.{at-limit, below-limit}
 use Rattle.boundary.proofs.Runs.{run-more, run-done, run-keeps}
-use Rattle.boundary_theorems.proofs.Kept.{image-length}
-use Rattle.boundary_theorems.proofs.Output.{filled-part}
+use Rattle.boundary.proofs.Kept.{image-length}
+use Rattle.boundary.proofs.Output.{filled-part}
 use Rattle.boundary_theorems.proofs.InRanges.{run-ranges}
 use Rattle.cabinet.specs.Answers.{toldStop, End, endAt, endOf, Answer, answerAt}
 use Rattle.cabinet_theorems.proofs.Exactly.{admitted-end}
 use Rattle.rest.specs.Rest.{placeOf, restOf}
 use Rattle.rest.proofs.Exactly.{rest-written}
 use Rattle.composing.specs.Joined.{lentAfter, termsAfter}
-use Rattle.composing.proofs.Raised.{raised}
-use Rattle.composing.proofs.Second.{pastOf, used-within, after-sound, after-short, runs-raise}
-use Rattle.night_slices.specs.Slices.{sliceCycles, Standing, together, Keeping, keeping, onKeep, keepingOf}
+use Rattle.composing.proofs.Raised.{raised, Ends}
+use Rattle.composing.proofs.Second.{pastOf, restAfter, used-within, after-sound, after-short, runs-raise}
+use Rattle.night_slices.specs.Slices.{sliceCycles, Standing, roundSum, Keeping, keeping, onKeep, keepingOf}
 use Rattle.night_slices.specs.Slices.{afterOf, sliceOf, goesOn, slicesOf, nightAt, nightOf}
 use Rattle.night_slices.proofs.Going.{slice-falls, slices-more, slices-done}
 
@@ -70,15 +70,15 @@ module _ (session : List ℕ) (n₁ n : ℕ) (l : n₁ ≤ n) (w₀ : World) whe
   run-whole : Whole (runOf (terms session n₁) w₀)
   run-whole = run-keeps (terms session n₁) Passes Whole turn-whole w₀ refl
 
--- sums that go round, and lists that were put together
-together-twice : (a b c : ℕ) → together a (b + c) ≡ together (together a b) c
-together-twice a b c = omega arith
+-- sums that go round, and lists that were put roundSum
+pub sum-twice : (a b c : ℕ) → roundSum a (b + c) ≡ roundSum (roundSum a b) c
+sum-twice a b c = omega arith
 
 seam-take : (i j : ℕ) (o p : List ℕ) → i ≤ length o → take (i + j) (take i o ++ p) ≡ take i o ++ take j p
 seam-take i j o p h =
     ap (λ (k : ℕ). take (k + j) (take i o ++ p)) (sym (length-take-le i o h)) ∙ take-append-add (take i o) p j
 
-seam-drop : (i j : ℕ) (o p : List ℕ) → i ≤ length o → drop (i + j) (take i o ++ p) ≡ drop j p
+pub seam-drop : (i j : ℕ) (o p : List ℕ) → i ≤ length o → drop (i + j) (take i o ++ p) ≡ drop j p
 seam-drop i j o p h =
     ap (λ (k : ℕ). drop (k + j) (take i o ++ p)) (sym (length-take-le i o h)) ∙ drop-append-add (take i o) p j
 
@@ -91,10 +91,10 @@ seam-fits i j o p h k =
 slice-most : (left : ℕ) → sliceCycles left ≤ 1000000000
 slice-most left = omega arith
 
-slice-least : (left : ℕ) → sliceCycles left ≤ left
+pub slice-least : (left : ℕ) → sliceCycles left ≤ left
 slice-least left = omega arith
 
-below : (a b k : ℕ) → a < b → b < suc k → a < k
+pub below : (a b k : ℕ) → a < b → b < suc k → a < k
 below a b k p q = omega arith
 
 -- what a night shows, as an answer; and what it will show when a run's answer comes after it
@@ -116,10 +116,10 @@ summed s a =
     record {
       reply = a .reply;
       machine = a .machine;
-      cycles = together (s .cycles) (a .cycles);
-      instructions = together (s .instructions) (a .instructions);
-      entries = together (s .entries) (a .entries);
-      used = together (s .used) (a .used);
+      cycles = roundSum (s .cycles) (a .cycles);
+      instructions = roundSum (s .instructions) (a .instructions);
+      entries = roundSum (s .entries) (a .entries);
+      used = roundSum (s .used) (a .used);
       sent = s .sent + a .sent;
       lent = withOutput (a .lent) (take (s .sent) (s .lent .output) ++ a .lent .output);
     }
@@ -129,10 +129,10 @@ abbrev ended : Ended → End
 ended e = endAt (toldStop (e .stop)) (e .world)
 
 -- the run of n from where a night stands, and the night after a slice that ended so
-abbrev runFrom : Standing → ℕ → Ended
+abbrev pub runFrom : Standing → ℕ → Ended
 runFrom s n = ranOf (terms (s .session) n) (s .machine) (lentAfter (s .sent) (s .lent))
 
-abbrev keptAfter : Standing → World → Keeping → Standing
+abbrev pub keptAfter : Standing → World → Keeping → Standing
 keptAfter s w k =
     let x = w .state in
     record {
@@ -141,16 +141,16 @@ keptAfter s w k =
       lent = withOutput (w .lent) (take (s .sent) (s .lent .output) ++ w .lent .output);
       session = k .session;
       left = s .left - x .cycles .0;
-      slices = together (s .slices) 1;
-      cycles = together (s .cycles) (x .cycles .0);
-      instructions = together (s .instructions) (x .instructions .0);
-      entries = together (s .entries) (x .entries .0);
-      used = together (s .used) (x .used .0);
+      slices = roundSum (s .slices) 1;
+      cycles = roundSum (s .cycles) (x .cycles .0);
+      instructions = roundSum (s .instructions) (x .instructions .0);
+      entries = roundSum (s .entries) (x .entries .0);
+      used = roundSum (s .used) (x .used .0);
       sent = s .sent + x .sent .0;
-      leaps = together (s .leaps) (x .leaps .0);
+      leaps = roundSum (s .leaps) (x .leaps .0);
     }
 
-abbrev next : Standing → Ended → Standing
+abbrev pub next : Standing → Ended → Standing
 next s e =
     let x = e .world .state in
     keptAfter s (e .world) (keeping (toldStop (e .stop)) (restOf (s .session) (x .used .0) (x .cycles .0)))
@@ -177,7 +177,7 @@ reached k left cycles f e =
     let z : left - cycles ≤ 0 = ltb-false 0 (left - cycles) h in
     omega arith
 
-by-limit : (k : Stop) (b : Bool) → (eqb (stopNumber k) 0 && b) ≡ true → k ≡ Limit
+pub by-limit : (k : Stop) (b : Bool) → (eqb (stopNumber k) 0 && b) ≡ true → k ≡ Limit
 by-limit Limit b e = refl
 by-limit Undefined b e = absurd (let z : _≡_ {A = ℕ} 0 1 = cc in let w : ⊥ = omega arith in w)
 by-limit Full b e = absurd (let z : _≡_ {A = ℕ} 0 1 = cc in let w : ⊥ = omega arith in w)
@@ -200,32 +200,32 @@ joins s e t v leaps inside h l =
     λ k. record {
       reply = t;
       machine = y .machine;
-      cycles = together-twice (s .cycles) (x .cycles .0) (y .cycles .0) k;
-      instructions = together-twice (s .instructions) (x .instructions .0) (y .instructions .0) k;
-      entries = together-twice (s .entries) (x .entries .0) (y .entries .0) k;
-      used = together-twice (s .used) (x .used .0) (y .used .0) k;
+      cycles = sum-twice (s .cycles) (x .cycles .0) (y .cycles .0) k;
+      instructions = sum-twice (s .instructions) (x .instructions .0) (y .instructions .0) k;
+      entries = sum-twice (s .entries) (x .entries .0) (y .entries .0) k;
+      used = sum-twice (s .used) (x .used .0) (y .used .0) k;
       sent = sums k;
       lent = withOutput (v .lent) (outputs k);
     }
 
 -- where no slice is refused
-record Good (s : Standing) : Type 0 where
-  image-long : length (s .lent .image) ≡ 65536
-  in-ranges : rangesOf (s .machine) ≡ true
-  sound : checkOf (s .session) ≡ Sound
-  fits : s .sent ≤ length (s .lent .output)
+pub record Good (s : Standing) : Type 0 where
+  pub image-long : length (s .lent .image) ≡ 65536
+  pub in-ranges : rangesOf (s .machine) ≡ true
+  pub sound : checkOf (s .session) ≡ Sound
+  pub fits : s .sent ≤ length (s .lent .output)
 
 module _ (s : Standing) (g : Good s) where
-  abbrev n₁ : ℕ
+  abbrev pub n₁ : ℕ
   n₁ = sliceCycles (s .left)
 
-  abbrev asked : Terms
+  abbrev pub asked : Terms
   asked = terms (s .session) n₁
 
-  abbrev given : Lent
+  abbrev pub given : Lent
   given = lentAfter (s .sent) (s .lent)
 
-  abbrev first : Ended
+  abbrev pub first : Ended
   first = runFrom s n₁
 
   slice-ends : endOf asked (s .machine) given ≡ ended first
@@ -235,7 +235,7 @@ module _ (s : Standing) (g : Good s) where
         g .sound,
       )
 
-  slice-next : sliceOf s ≡ next s first
+  pub slice-next : sliceOf s ≡ next s first
   unfolding sliceOf
   slice-next =
       ap (λ (x : End). afterOf s (answerAt x) (x .world .state .leaps .0)) slice-ends
@@ -244,7 +244,7 @@ module _ (s : Standing) (g : Good s) where
       (used-within (s .session) (s .machine) given n₁ (g .sound))
       (after-short (s .session) (s .machine) given n₁ (g .sound)))
 
-  next-good : Good (next s first)
+  pub next-good : Good (next s first)
   next-good =
       let f = filled-part asked (s .machine) given in
       let x = first .world in
@@ -257,25 +257,36 @@ module _ (s : Standing) (g : Good s) where
       }
 
   -- the last slice is the whole run
-  last-whole : goesOn (next s first) ≡ false → runFrom s (s .left) ≡ first
+  pub last-whole : goesOn (next s first) ≡ false → runFrom s (s .left) ≡ first
   last-whole f =
       run-whole (s .session) n₁ (s .left) (slice-least (s .left)) (startWorld (s .machine) given)
       (reached (first .stop) (s .left) (first .world .state .cycles .0) f)
 
   -- and after one that goes on, what follows it is the rest of the run
+  abbrev pub second : Ended
+  second =
+      let x = first .world .state in
+      ranOf (termsAfter (x .used .0) (x .cycles .0) (terms (s .session) (s .left))) (x .machine) (lentAfter (x .sent .0) (first .world .lent))
+
+  pub next-run : second ≡ runFrom (next s first) (next s first .left)
+  next-run =
+      let w = first .world in
+      let x = w .state in
+      ap (λ (o : List ℕ). ranOf (termsAfter (x .used .0) (x .cycles .0) (terms (s .session) (s .left))) (x .machine) (withOutput (w .lent) o))
+      (sym (seam-drop (s .sent) (x .sent .0) (s .lent .output) (w .lent .output) (g .fits)))
+
+  pub goes-raised : goesOn (next s first) ≡ true
+      → Ends (s .session) (restAfter (s .session) (s .machine) given n₁) (pastOf (first .world)) (first .world .state .leaps .0) (runFrom s (s .left)) second
+  goes-raised f = runs-raise (s .session) (s .machine) given n₁ (g .sound) (s .left) (slice-least (s .left)) (by-limit (first .stop) _ f)
+
   goes-whole : goesOn (next s first) ≡ true
       → summed s (answerAt (ended (runFrom s (s .left)))) ≡ summed (next s first) (answerAt (ended (runFrom (next s first) (next s first .left))))
   goes-whole f =
-      let w = first .world in
-      let x = w .state in
-      let again = termsAfter (x .used .0) (x .cycles .0) (terms (s .session) (s .left)) in
-      let v = ranOf again (x .machine) (lentAfter (x .sent .0) (w .lent)) in
-      let r = runs-raise (s .session) (s .machine) given n₁ (g .sound) (s .left) (slice-least (s .left)) (by-limit (first .stop) _ f) in
+      let r = goes-raised f in
       ap (λ (k : Stop). summed s (answerAt (endAt (toldStop k) (runFrom s (s .left) .world)))) (r .0)
-      ∙ ap (λ (z : World). summed s (answerAt (endAt (toldStop (v .stop)) z))) (r .1 .same)
-      ∙ joins s first (toldStop (v .stop)) (v .world) (r .1 .leaps) (r .1 .inside) (g .fits) (filled-part asked (s .machine) given .2)
-      ∙ ap (λ (o : List ℕ). summed (next s first) (answerAt (ended (ranOf again (x .machine) (withOutput (w .lent) o)))))
-      (sym (seam-drop (s .sent) (x .sent .0) (s .lent .output) (w .lent .output) (g .fits)))
+      ∙ ap (λ (z : World). summed s (answerAt (endAt (toldStop (second .stop)) z))) (r .1 .same)
+      ∙ joins s first (toldStop (second .stop)) (second .world) (r .1 .leaps) (r .1 .inside) (g .fits) (filled-part asked (s .machine) given .2)
+      ∙ ap (λ (x : Ended). summed (next s first) (answerAt (ended x))) next-run
 
 -- from any standing on, the slices are the one run of the cycles that are left
 abbrev OneRun : Standing → Type 0

@@ -8,6 +8,7 @@ use mathlib.Core.Path.{_≡_, refl, sym, ap, _∙_}
 use lib.ListN.{length, length-append, length-set, length-replicate}
 use lib.Seq.{take-suc-set, append-snoc}
 use lib.Dec.{ltb}
+use borrow.Author.Tests.{lt-ltb}
 use Rattle.printing.specs.Printing.{emptyLine, putOf, putsOf, shown, digitOf, decimalFrom, decimalOf, hexadecimalOf}
 use Rattle.printing.specs.declared.Line.{Line}
 
@@ -55,6 +56,14 @@ decimal-most (suc f) n =
 
 pub decimal-short : (n : ℕ) → Short 20 (decimalOf n)
 decimal-short n = record { most = decimal-most 20 n }
+
+-- and below 10 one digit
+pub one-digit : (k : ℕ) → k ≤ 9 → decimalOf k ≡ digitOf (k % 10) ∷ []
+unfolding decimalFrom
+one-digit k h = rw (lt-ltb k 10 (omega (arith, h)))
+
+pub digit-short : (k : ℕ) → k ≤ 9 → Short 1 (decimalOf k)
+digit-short k h = record { most = let e = ap length (one-digit k h) in omega (arith, e) }
 
 hexadecimal-long : (k n : ℕ) → length (hexadecimalOf k n) ≡ k
 hexadecimal-long zero n = refl

@@ -17,20 +17,20 @@ use Rattle.session.specs.declared.Checked.the-variants.{Sound, Bad}
 use Rattle.replies.specs.Replies.{Told, told, toldFault}
 use Rattle.replies.proofs.Known.{fault-known}
 use Rattle.rest.specs.Rest.{placeOf, hasFewer, restOf}
-use Rattle.rest.specs.Answers.{Answer, wrote, refuses, restRefusal, answerBy, restAnswer, bufferBy, restBuffer}
+use Rattle.rest.specs.Answers.{RestReply, restWrote, refuses, restRefusal, answerBy, restAnswer, bufferBy, restBuffer}
 use Rattle.rest.proofs.Given.{refused-bad, refused-30, refused-31, not-refused}
 
 -- what an answer tells: how long the rest is, a reply's number, 0 where it is no refusal, and a reply
-abbrev long : Answer → ℕ
-long (wrote n) = n
+abbrev long : RestReply → ℕ
+long (restWrote n) = n
 long (refuses t) = 0
 
-abbrev number : Answer → ℕ
-number (wrote n) = 0
+abbrev number : RestReply → ℕ
+number (restWrote n) = 0
 number (refuses t) = t .number
 
-abbrev reply : Answer → Told
-reply (wrote n) = told 0 none
+abbrev reply : RestReply → Told
+reply (restWrote n) = told 0 none
 reply (refuses t) = t
 
 fault-numbers : (f : Fault) → (4 ≤ toldFault f .number) × (toldFault f .number ≤ 7)
@@ -40,11 +40,11 @@ fault-numbers (Value k) = (omega arith, omega arith)
 fault-numbers (Time k) = (omega arith, omega arith)
 
 -- answers of different numbers are no one answer
-apart : {a b : Answer} {R : Type 0} → a ≡ b → (number a ≡ number b → ⊥) → R
+apart : {a b : RestReply} {R : Type 0} → a ≡ b → (number a ≡ number b → ⊥) → R
 apart e h = absurd (h (ap number e))
 
 module _ (s : List ℕ) (used cycles : ℕ) (b : List ℕ) where
-  abbrev Answers : Answer → Type 0
+  abbrev Answers : RestReply → Type 0
   Answers a = restAnswer s used cycles b ≡ a
 
   abbrev rest : List ℕ
@@ -55,11 +55,11 @@ module _ (s : List ℕ) (used cycles : ℕ) (b : List ℕ) where
   answers e = ap (λ (t : Option Told). answerBy t rest) e
 
   -- each way that the call can go
-  pub answer-cases : (P : Answer → Type 0)
+  pub answer-cases : (P : RestReply → Type 0)
       → ((f : Fault) → checkOf s ≡ Bad f → P (refuses (toldFault f)))
       → (checkOf s ≡ Sound → length s < placeOf s used → P (refuses (told 30 none)))
       → (checkOf s ≡ Sound → placeOf s used ≤ length s → length b < length rest → P (refuses (told 31 none)))
-      → (checkOf s ≡ Sound → placeOf s used ≤ length s → length rest ≤ length b → P (wrote (length rest)))
+      → (checkOf s ≡ Sound → placeOf s used ≤ length s → length rest ≤ length b → P (restWrote (length rest)))
       → P (restAnswer s used cycles b)
   unfolding hasFewer
   answer-cases P p q u v = by (checkOf s) refl (ltb (length s) (placeOf s used)) refl (ltb (length b) (length rest)) refl
@@ -119,14 +119,14 @@ module _ (s : List ℕ) (used cycles : ℕ) (b : List ℕ) where
   unfolding hasFewer
   free h = not-refused s used cycles b (h .0) (le-ltb _ _ (h .1)) (h .2)
 
-  pub rest-written : (n : ℕ) → Answers (wrote n) ↔ (Room × (n ≡ length rest))
+  pub rest-written : (n : ℕ) → Answers (restWrote n) ↔ (Room × (n ≡ length rest))
   rest-written n = (
-    answer-cases (λ a. a ≡ wrote n → Room × (n ≡ length rest))
+    answer-cases (λ a. a ≡ restWrote n → Room × (n ≡ length rest))
         (λ d e g. apart g (λ m. let k = fault-numbers d .0 in omega (arith, m, k)))
         (λ e h g. apart g (λ m. omega arith))
         (λ e h l g. apart g (λ m. omega arith))
         (λ e h l g. ((e, h, l), sym (ap long g))),
-    (λ h. answers (free (h .0)) ∙ ap wrote (sym (h .1))),
+    (λ h. answers (free (h .0)) ∙ ap restWrote (sym (h .1))),
   )
 
   -- and then stands at the buffer's front, and the bytes after it are unchanged

@@ -17,7 +17,7 @@ use Rattle.session.specs.declared.Fault.{Fault}
 use Rattle.replies.specs.Replies.{Told, told, toldFault, toldCheck}
 use Rattle.rest.specs.Rest.{placeOf, hasFewer, skipOf, restFrom, restOf}
 use Rattle.rest.specs.Ahead.{SoundFrom}
-use Rattle.rest.specs.Answers.{wrote, refuses, toldRest, firstOf, restRefusal, answerBy, restAnswer, bufferBy, restBuffer}
+use Rattle.rest.specs.Answers.{restWrote, refuses, toldRest, firstOf, restRefusal, answerBy, restAnswer, bufferBy, restBuffer}
 use Rattle.rest.specs.declared.Rested.{Rested}
 use Rattle.rest.specs.declared.Rested.the-variants.{Written, Bad, TooFew, NoRoom}
 use Rattle.rest.proofs.Places.{place-sound}
@@ -116,7 +116,7 @@ module _ (s : List ℕ) (used cycles : ℕ) (b : List ℕ) where
       given-written h {left} f =
           let l = rest-long in
           let g = given (Written (length rest)) refl (not-refused sound (skip-some s used at e .0) (omega arith)) in (
-            ap wrote (sym l) ∙ g .0,
+            ap restWrote (sym l) ∙ g .0,
             f
                 ∙ ap (λ (k : ℕ). restFrom s cycles at [] ++ drop k b) (sym l)
                 ∙ ap (λ (r : List ℕ). r ++ drop (length rest) b) (sym rest-here)

@@ -4,4 +4,5 @@ pub mod Given
 pub mod Settled
 pub mod Exactly
 pub mod Matched
+pub mod Again
 pub mod Worked

@@ -50,7 +50,7 @@ module _ (s : List ℕ) (c : ℕ) where
     tail-more = rest-more s c at [] h ∙ behind (suc (length s - nextAt s at)) (nextAt s at) (shiftedAt s c at) (omega arith) (sound-next s at h a)
 
     -- the parts of a record: length and kind, time, payload
-    head-long : length (take 4 (drop at s)) ≡ 4
+    pub head-long : length (take 4 (drop at s)) ≡ 4
     head-long =
         let d = length-drop at s in
         let w = whole-at s at h a in
@@ -163,7 +163,7 @@ module _ (s : List ℕ) (c from : ℕ) where
     byte-there : (j : ℕ) → getD r (length w + j) 0 ≡ getD (tail s c at) j 0
     byte-there j = ap (λ (l : List ℕ). getD l (length w + j) 0) e ∙ getD-append-add w (tail s c at) j 0
 
-    alike : at < length s → SoundFrom s at → Alike s r c from (length w)
+    pub alike : at < length s → SoundFrom s at → Alike s r c from (length w)
     unfolding lengthAt kindAt timeAt payloadAt
     alike h a =
         let head : (j : ℕ) → j < 4 → getD r (length w + j) 0 ≡ getD s (from + length w + j) 0 =

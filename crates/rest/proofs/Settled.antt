@@ -9,13 +9,13 @@ use lib.ListN.{getD}
 use Rattle.laws.proofs.Known.{known}
 use Rattle.session.specs.declared.Fault.the-variants.{Length, Kind, Value, Time}
 use Rattle.replies.proofs.Known.{faultBack}
-use Rattle.rest.specs.Answers.{Answer, wrote, refuses, toldRest}
+use Rattle.rest.specs.Answers.{RestReply, restWrote, refuses, toldRest}
 use Rattle.rest.specs.declared.Rested.{Rested}
 use Rattle.rest.specs.declared.Rested.the-variants.{Written, Bad, TooFew, NoRoom}
 use Rattle.rest.proofs.Given.{Gives}
 
-abbrev restBack : Answer → Rested
-restBack (wrote n) = Written n
+abbrev restBack : RestReply → Rested
+restBack (restWrote n) = Written n
 restBack (refuses t) = cond (ltb (t .number) 30) (Bad (faultBack t)) (getD (TooFew ∷ []) (t .number - 30) NoRoom)
 
 rest-known : (a b : Rested) → toldRest a ≡ toldRest b → a ≡ b

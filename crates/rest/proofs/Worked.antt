@@ -9,7 +9,7 @@ use Rattle.session.specs.Session.{lengthAt, kindAt, timeAt, payloadAt, nextAt, 
 use Rattle.session.specs.Session.{firstFault, faultAt, checkTurn, checkFrom}
 use Rattle.replies.specs.Replies.{told}
 use Rattle.rest.specs.Rest.{placeOf, hasFewer, shiftedAt, restFrom, restOf}
-use Rattle.rest.specs.Answers.{wrote, refuses, restRefusal, restAnswer, restBuffer}
+use Rattle.rest.specs.Answers.{restWrote, refuses, restRefusal, restAnswer, restBuffer}
 
 -- NMI at 3, port 1 pins at 4, a received byte at 70,000
 abbrev session : List ℕ
@@ -42,7 +42,7 @@ abbrev ones : ℕ → List ℕ
 ones n = replicate n 1
 
 answers : restAnswer two 1 5 (ones 11) ∷ restAnswer two 1 5 (ones 8) ∷ restAnswer two 3 5 (ones 11) ∷ restAnswer (take 16 session) 1 5 (ones 11) ∷ []
-    ≡ wrote 9 ∷ refuses (told 31 none) ∷ refuses (told 30 none) ∷ refuses (told 4 (some 1)) ∷ []
+    ≡ restWrote 9 ∷ refuses (told 31 none) ∷ refuses (told 30 none) ∷ refuses (told 4 (some 1)) ∷ []
 unfolding restAnswer restRefusal hasFewer restOf restFrom placeOf shiftedAt lengthAt kindAt timeAt payloadAt nextAt lengthFor fits cutShort firstFault faultAt checkTurn checkFrom loopOf turns
 answers = refl
 

@@ -12,12 +12,12 @@ use Rattle.rest.specs.declared.Rested.the-variants.{Written, Bad, TooFew
 use Rattle.rest.specs.Rest.{hasFewer, restOf}
 
 -- the rest was written, and is so many bytes long; or a reply's number, with the record that 4 to 7 name
-pub data Answer : Type 0 where
-  wrote : ℕ → Answer
-  refuses : Told → Answer
+pub data RestReply : Type 0 where
+  restWrote : ℕ → RestReply
+  refuses : Told → RestReply
 
-abbrev pub toldRest : Rested → Answer
-toldRest (Written n) = wrote n
+abbrev pub toldRest : Rested → RestReply
+toldRest (Written n) = restWrote n
 toldRest (Bad f) = refuses (toldFault f)
 toldRest TooFew = refuses (told 30 none)
 toldRest NoRoom = refuses (told 31 none)
@@ -37,11 +37,11 @@ restRefusal session used cycles buffer =
     none))
 
 -- the length of the rest, or the refusal
-abbrev pub answerBy : Option Told → List ℕ → Answer
+abbrev pub answerBy : Option Told → List ℕ → RestReply
 answerBy (some t) rest = refuses t
-answerBy none rest = wrote (length rest)
+answerBy none rest = restWrote (length rest)
 
-unfoldable pub restAnswer : List ℕ → ℕ → ℕ → List ℕ → Answer
+unfoldable pub restAnswer : List ℕ → ℕ → ℕ → List ℕ → RestReply
 restAnswer session used cycles buffer = answerBy (restRefusal session used cycles buffer) (restOf session used cycles)
 
 -- the rest at the buffer's front and the bytes after it unchanged; a refusal leaves the buffer as it was

@@ -5,7 +5,7 @@ use Rattle.boundary.specs.World.{Lent, lent}
 use Rattle.cabinet.specs.declared.Ran.{Ran}
 use Rattle.cabinet.specs.Answers.{answered}
 use Rattle.printing.specs.Printing.{emptyLine, putsOf}
-use Rattle.bench_answer.specs.Answer.{nothing, stopText, textOf, onPower}
+use Rattle.bench_answer.specs.Answer.{nothing, stopText, textOf, poweredText}
 use Rattle.bench_answer.proofs.powered.Statement.{statement}
 use Rattle.bench_answer.proofs.powered.Tie as tie
 
@@ -15,7 +15,7 @@ unfolding textOf stopText
 text-alone r l = refl
 
 pub powered-spec : {M : Type 1} → statement M
-unfolding onPower
+unfolding poweredText
 powered-spec =
     tie.close
     (tie.spec

@@ -15,9 +15,9 @@ stopped-spec =
     (λ c κs. search needs)  -- number-requires
     (λ c. search needs)  -- cast-numbered
     (λ c κs. search needs)  -- numbered-requires
-    (λ c κs. search needs)  -- numbers-requires
+    (λ c κs. search needs)  -- run-numbers-requires
     (λ c κs. search needs)  -- counts-requires
     (λ c κs. search needs)  -- registers-requires
     (λ c.
-    rw (← c .before .before .before .before .before .before .empty .ensures, ← c .before .before .numbers .ensures, ← c .before .before .before .before .number .ensures)
+    rw (← c .before .before .before .before .before .before .empty .ensures, ← c .before .before .run-numbers .ensures, ← c .before .before .before .before .number .ensures)
     (puts-then _ _ _ (puts-then _ _ _ (c .before .before .before .numbered .ensures) (c .before .counts .ensures)) (c .registers .ensures))))  -- returns

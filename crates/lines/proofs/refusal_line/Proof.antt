@@ -1,39 +1,58 @@
--- `refusal_line` meets its contract: each arm is a case of the definition's. Assumes nothing.
+-- `refusal_line` meets its contract: 4 to 7 name a record, the others do not. Assumes nothing.
+use Prim.Native.Nat.{ℕ}
+use mathlib.Core.Path.{_≡_, refl, sym, ap, _∙_}
+use mathlib.Core.Bool.{Bool, true, false, _&&_, true≢false}
+use mathlib.Core.Option.{none, some, Option·getD}
+use lib.Dec.{leb}
+use Rattle.replies.specs.declared.Reply.{Reply}
+use Rattle.replies.specs.declared.Reply.the-variants.{Limit, WrongImage, WrongMachine, WrongLimit, Length, Kind, Value, Time, Undefined, Full}
+use Rattle.replies.specs.Replies.{toldReply}
+use Rattle.printing.specs.Printing.{emptyLine, putsOf}
+use Rattle.lines.specs.Lines.{refusedText, refusal}
 use borrow.Author.Needs.{needs}
 use Rattle.lines.proofs.refusal_line.Statement.{statement}
 use Rattle.lines.proofs.refusal_line.Tie as tie
+
+abbrev names : Reply → Bool
+names r = leb 4 (toldReply r .number) && leb (toldReply r .number) 7
+
+named : (r : Reply) → names r ≡ true → refusedText (toldReply r .number) (some (Option·getD (toldReply r .named) 0)) ≡ refusal (toldReply r)
+named Limit e = absurd (true≢false (sym e))
+named WrongImage e = absurd (true≢false (sym e))
+named WrongMachine e = absurd (true≢false (sym e))
+named WrongLimit e = absurd (true≢false (sym e))
+named (Length k) e = refl
+named (Kind k) e = refl
+named (Value k) e = refl
+named (Time k) e = refl
+named Undefined e = absurd (true≢false (sym e))
+named Full e = absurd (true≢false (sym e))
+
+alone : (r : Reply) → names r ≡ false → refusedText (toldReply r .number) none ≡ refusal (toldReply r)
+alone Limit e = refl
+alone WrongImage e = refl
+alone WrongMachine e = refl
+alone WrongLimit e = refl
+alone (Length k) e = absurd (true≢false e)
+alone (Kind k) e = absurd (true≢false e)
+alone (Value k) e = absurd (true≢false e)
+alone (Time k) e = absurd (true≢false e)
+alone Undefined e = refl
+alone Full e = refl
 
 pub refusal-line-spec : {M : Type 1} → statement M
 refusal-line-spec =
     tie.close
     (tie.spec
-    (λ c. search needs)  -- enum-told
-    (λ c κs. search needs)  -- refused-requires
-    (λ c. search needs)  -- enum-told-2
-    (λ c κs. search needs)  -- refused-requires-2
-    (λ c. search needs)  -- enum-told-3
-    (λ c κs. search needs)  -- refused-requires-3
-    (λ c. search needs)  -- enum-told-4
-    (λ c κs. search needs)  -- refused-requires-4
-    (λ c. search needs)  -- enum-known-reply
+    (λ c κs. search needs)  -- number-requires
+    (λ c κs. search needs)  -- record-requires
     (λ c κs. search needs)  -- refused-record-requires
-    (λ c. search needs)  -- enum-known-reply-2
-    (λ c κs. search needs)  -- refused-record-requires-2
-    (λ c. search needs)  -- enum-known-reply-3
-    (λ c κs. search needs)  -- refused-record-requires-3
-    (λ c. search needs)  -- enum-known-reply-4
-    (λ c κs. search needs)  -- refused-record-requires-4
-    (λ c. search needs)  -- enum-told-5
-    (λ c κs. search needs)  -- refused-requires-5
-    (λ c. search needs)  -- enum-told-6
-    (λ c κs. search needs)  -- refused-requires-6
-    (λ c. rw (c .before .enum-told .given .1) (c .refused .ensures))  -- returns
-    (λ c. rw (c .before .enum-told2 .given .1) (c .refused2 .ensures))  -- returns-2
-    (λ c. rw (c .before .enum-told3 .given .1) (c .refused3 .ensures))  -- returns-3
-    (λ c. rw (c .before .enum-told4 .given .1) (c .refused4 .ensures))  -- returns-4
-    (λ c. rw (c .before .before .reply .given .1) (c .refused-record .ensures))  -- returns-5
-    (λ c. rw (c .before .before .reply2 .given .1) (c .refused-record2 .ensures))  -- returns-6
-    (λ c. rw (c .before .before .reply3 .given .1) (c .refused-record3 .ensures))  -- returns-7
-    (λ c. rw (c .before .before .reply4 .given .1) (c .refused-record4 .ensures))  -- returns-8
-    (λ c. rw (c .before .enum-told5 .given .1) (c .refused5 .ensures))  -- returns-9
-    (λ c. rw (c .before .enum-told6 .given .1) (c .refused6 .ensures)))  -- returns-10
+    (λ c.
+    rw (c .before .before .before .number .ensures, c .before .«record» .ensures) at (c .refused-record .ensures)
+    ∙ ap (λ t. putsOf emptyLine t)
+    (named (c .before .before .before .before .args .reply) (rw (c .before .before .before .number .ensures) at (c .before .before .if1 .taken))))  -- returns
+    (λ c κs. search needs)  -- refused-requires
+    (λ c.
+    rw (c .before .before .number .ensures) at (c .refused .ensures)
+    ∙ ap (λ t. putsOf emptyLine t)
+    (alone (c .before .before .before .args .reply) (rw (c .before .before .number .ensures) at (c .before .if1 .left)))))  -- returns-2

@@ -9,7 +9,7 @@ use lib.Seq.{length-take-le}
 use borrow.Author.Tests.{not-true, not-false}
 use Rattle.replies.specs.Replies.{Told, toldReply, stops}
 use Rattle.rest.specs.Rest.{restOf}
-use Rattle.rest.specs.Answers.{Answer, wrote, toldRest, restAnswer}
+use Rattle.rest.specs.Answers.{RestReply, restWrote, toldRest, restAnswer}
 use Rattle.rest.specs.declared.Rested.{Rested}
 use Rattle.rest.specs.declared.Rested.the-variants.{Written, Bad, TooFew, NoRoom}
 use Rattle.night_slices.specs.Slices.{keeping, onKeep, keepingOf}
@@ -22,7 +22,7 @@ use Rattle.night_slices.proofs.keep.Tie as tie
 abbrev had : tie.After-rest-arg → List ℕ
 had c = let a = c .before .before .before .before .before .args in take (a .size) (a .session .now)
 
-abbrev Answers : tie.After-rest-arg → Answer → Type 0
+abbrev Answers : tie.After-rest-arg → RestReply → Type 0
 Answers c x = let a = c .before .before .before .before .before .args in x ≡ restAnswer (had c) (a .used .0) (a .cycles .0) (a .spare .now)
 
 -- the run stopped, so that what the call answers is kept
@@ -37,7 +37,7 @@ keeps c r e =
     keeps-had (a .size) (a .session .now) (a .spare .now) (p .0) (p .1) (a .used .0) (a .cycles .0) (toldReply (a .reply)) stopped r e
 
 -- the rest was written: it is no longer than the session was, within its buffer, and there is room for it in the session's
-written : (c : tie.After-known-told) → Answers (c .before .before .before .before .before .before .before) (wrote (c .before .rested .given .0 .0))
+written : (c : tie.After-known-told) → Answers (c .before .before .before .before .before .before .before) (restWrote (c .before .rested .given .0 .0))
 written c = sym (ap toldRest (c .before .rested .given .1)) ∙ c .before .before .before .before .before .rest .ensures .0
 
 size : (c : tie.After-known-told) → c .before .rested .given .0 .0 ≤ c .before .before .before .before .before .before .before .before .before .before .before .before .args .size

@@ -7,8 +7,8 @@ pub slice-line-spec : {M : Type 1} → statement M
 slice-line-spec =
     tie.close
     (tie.spec
+    (λ c κs. search needs)  -- run-numbers-requires
     (λ c κs. search needs)  -- number-requires
-    (λ c κs. search needs)  -- numbers-requires
     (λ c. search needs)  -- cast-slice-line
     (λ c κs. search needs)  -- slice-line-requires
-    (λ c. rw (← c .before .before .before .number .ensures, ← c .before .before .numbers .ensures) (c .slice-line .ensures)))  -- returns
+    (λ c. rw (← c .before .before .number .ensures, ← c .before .before .before .run-numbers .ensures) (c .slice-line .ensures)))  -- returns

@@ -1,0 +1,166 @@
+-- What a night sums up and leaves, beside the one run: its rest is the run's rest, its sums are the run's counts and pass no type, and its
+-- leaps are the run's, or more by at most one for each cut. Assumes nothing.
+use Prim.Native.Nat.{ℕ, zero, suc, _+_, _-_, _≤_, _<_, _%_, _^_}
+use native.Mathlib.Omega.{arith}
+use mathlib.Core.List.{List}
+use mathlib.Core.Option.{none}
+use mathlib.Core.Path.{_≡_, refl, sym, ap, subst, _∙_}
+use mathlib.Core.Bool.{Bool, true, false}
+use lib.ListN.{length}
+use borrow.Author.Tests.{le-ltb}
+use Rattle.laws.proofs.Conds.{passes}
+use Rattle.session.specs.Session.{checkOf}
+use Rattle.session.specs.declared.Checked.the-variants.{Sound}
+use Rattle.replies.specs.Replies.{told}
+use Rattle.machine.specs.declared.Machine.{Machine}
+use Rattle.machine.specs.Machine.{Ranges}
+use Rattle.machine.proofs.Ranges.{say-ranges}
+use Rattle.boundary.specs.World.{Lent, Terms, World, Ended}
+use Rattle.boundary.specs.Start.{ranOf}
+use Rattle.boundary.proofs.Kept.{cycles-bound, counts-fine, place-within}
+use Rattle.rest.specs.Rest.{restOf}
+use Rattle.rest.proofs.Again.{rest-of-rest}
+use Rattle.composing.proofs.Raised.{apart-most}
+use Rattle.composing.proofs.Second.{used-within}
+use Rattle.night_slices.specs.Slices.{Standing, roundSum, sliceOf, goesOn, slicesOf, nightAt, nightOf}
+use Rattle.night_slices.proofs.Going.{slice-falls, slices-more, slices-done}
+use Rattle.night_theorems.proofs.OneRun.{sum-twice, below, runFrom, next, Good, n₁, given, first, slice-next, next-good, last-whole}
+use Rattle.night_theorems.proofs.OneRun.{second, next-run, goes-raised, EndsAs, slices-one-run}
+
+-- what the slices from a standing on come to, beside the one run of the cycles that are left
+record Comes (s : Standing) (e : Ended) (end : Standing) : Type 0 where
+  slices : ℕ
+  leaps : ℕ
+  slices-told : end .slices ≡ roundSum (s .slices) slices
+  leaps-told : end .leaps ≡ roundSum (s .leaps) leaps
+  slices-few : slices ≤ s .left + 1
+  leaps-least : e .world .state .leaps .0 ≤ leaps
+  leaps-most : leaps + 1 ≤ e .world .state .leaps .0 + slices
+  rest : end .session ≡ restOf (s .session) (e .world .state .used .0) (e .world .state .cycles .0)
+  left : end .left ≡ s .left - e .world .state .cycles .0
+
+module _ (s : Standing) (g : Good s) where
+  -- the last slice
+  last-comes : Comes s (first s g) (next s (first s g))
+  last-comes =
+      record {
+        slices = 1;
+        leaps = first s g .world .state .leaps .0;
+        slices-told = refl;
+        leaps-told = refl;
+        slices-few = omega arith;
+        leaps-least = omega arith;
+        leaps-most = omega arith;
+        rest = refl;
+        left = refl;
+      }
+
+  -- a slice that goes on, and those after it
+  goes-comes : goesOn (next s (first s g)) ≡ true → next s (first s g) .left < s .left → (end : Standing)
+      → Comes (next s (first s g)) (second s g) end → Comes s (runFrom s (s .left)) end
+  goes-comes f l end c =
+      let x = first s g .world .state in
+      let y = second s g .world .state in
+      let one = runFrom s (s .left) .world .state in
+      let r = goes-raised s g f .1 in
+      let used : one .used .0 ≡ x .used .0 + y .used .0 = ap (λ (w : World). w .state .used .0) (r .same) in
+      let cycles : one .cycles .0 ≡ x .cycles .0 + y .cycles .0 = ap (λ (w : World). w .state .cycles .0) (r .same) in
+      let leaps : one .leaps .0 ≡ r .leaps = ap (λ (w : World). w .state .leaps .0) (r .same) in
+      let low = r .apart .low in
+      let most = apart-most (r .apart) in
+      let a = c .leaps-least in
+      let b = c .leaps-most in
+      let few = c .slices-few in
+      let left = c .left in
+      record {
+        slices = 1 + c .slices;
+        leaps = x .leaps .0 + c .leaps;
+        slices-told = c .slices-told ∙ sym (sum-twice (s .slices) 1 (c .slices));
+        leaps-told = c .leaps-told ∙ sym (sum-twice (s .leaps) (x .leaps .0) (c .leaps));
+        slices-few = omega (arith, few, l);
+        leaps-least = omega (arith, leaps, low, a);
+        leaps-most = omega (arith, leaps, most, b);
+        rest = c .rest
+            ∙ rest-of-rest (s .session) (x .used .0) (x .cycles .0) (g .sound)
+            (used-within (s .session) (s .machine) (given s g) (n₁ s g) (g .sound)) (y .used .0) (y .cycles .0)
+            ∙ ap (λ (k : ℕ). restOf (s .session) k (x .cycles .0 + y .cycles .0)) (sym used)
+            ∙ ap (restOf (s .session) (one .used .0)) (sym cycles);
+        left = omega (arith, left, cycles);
+      }
+
+slices-come : (k : ℕ) (s : Standing) → Good s → s .left < k → Comes s (runFrom s (s .left)) (slicesOf s)
+slices-come zero s g l = absurd (let z : ⊥ = omega arith in z)
+slices-come (suc k) s g l = by (λ t. slices-come k t) (goesOn (sliceOf s)) refl
+  where
+    e : sliceOf s ≡ next s (first s g)
+    e = slice-next s g
+
+    by : ((t : Standing) → Good t → t .left < k → Comes t (runFrom t (t .left)) (slicesOf t)) → (b : Bool) → goesOn (sliceOf s) ≡ b
+        → Comes s (runFrom s (s .left)) (slicesOf s)
+    by ih true f =
+        let t = next s (first s g) in
+        let falls : t .left < s .left = subst (λ (x : Standing). x .left < s .left) e (slice-falls s f) in
+        subst (Comes s (runFrom s (s .left))) (sym (slices-more s f ∙ ap slicesOf e))
+        (goes-comes s g (subst (λ (x : Standing). goesOn x ≡ true) e f) falls (slicesOf t)
+        (subst (λ (x : Ended). Comes t x (slicesOf t)) (sym (next-run s g)) (ih t (next-good s g) (below (t .left) (s .left) k falls l))))
+    by ih false f =
+        subst (Comes s (runFrom s (s .left))) (sym (slices-done s f ∙ e))
+        (subst (λ (x : Ended). Comes s x (next s (first s g))) (sym (last-whole s g (subst (λ (x : Standing). goesOn x ≡ false) e f))) (last-comes s g))
+
+-- A night's rest, the cycles that are left and its sums are those of the run, with no going round; its leaps are the run's, or more by at
+-- most one for each slice but the first.
+pub record SumsAs (s : Standing) (asked : Terms) (e : Ended) : Type 0 where
+  pub session : s .session ≡ restOf (asked .session) (e .world .state .used .0) (e .world .state .cycles .0)
+  pub left : s .left ≡ asked .limit - e .world .state .cycles .0
+  pub cycles : s .cycles ≡ e .world .state .cycles .0
+  pub instructions : s .instructions ≡ e .world .state .instructions .0
+  pub entries : s .entries ≡ e .world .state .entries .0
+  pub used : s .used ≡ e .world .state .used .0
+  pub leaps-least : e .world .state .leaps .0 ≤ s .leaps
+  pub leaps-most : s .leaps + 1 ≤ e .world .state .leaps .0 + s .slices
+
+-- a number below 2^64 does not go round
+as-it-is : {a b : ℕ} → a ≡ b % 2 ^ 64 → b < 2 ^ 64 → a ≡ b
+as-it-is e l = omega arith
+
+alone : {a b : ℕ} → a ≡ roundSum 0 b → b < 2 ^ 64 → a ≡ b
+alone e l = omega arith
+
+-- N as a night is asked it, and a session that a slice holds
+module _ (asked : Terms) (m : Machine) (given : Lent)
+    (long : length (given .image) ≡ 65536) (ranges : Ranges (m .chip .bus)) (sound : checkOf (asked .session) ≡ Sound)
+    (n-fits : asked .limit < 2 ^ 32) (session-fits : length (asked .session) < 2 ^ 64) where
+  pub slices-sums : SumsAs (slicesOf (nightAt (told 0 none) asked m given)) asked (ranOf asked m given)
+  slices-sums =
+      let s = nightAt (told 0 none) asked m given in
+      let good : Good s = record { image-long = long; in-ranges = say-ranges (m .chip .bus) ranges; sound = sound; fits = omega arith } in
+      let c = slices-come (suc (asked .limit)) s good (omega arith) in
+      let ends = slices-one-run asked m given long ranges sound in
+      let cycles = cycles-bound asked m given in
+      let fine = counts-fine asked m given in
+      let place = place-within asked m given sound in
+      let i = fine .instructions in
+      let n = fine .entries in
+      let k = fine .leaps in
+      let u = fine .used in
+      let few = c .slices-few in
+      let least = c .leaps-least in
+      let most = c .leaps-most in
+      let slices = alone (c .slices-told) (omega (arith, few, n-fits)) in
+      let leaps = alone (c .leaps-told) (omega (arith, few, most, k, cycles, n-fits)) in
+      record {
+        session = c .rest;
+        left = c .left;
+        cycles = as-it-is (ends .cycles) (omega (arith, cycles, n-fits));
+        instructions = as-it-is (ends .instructions) (omega (arith, cycles, i, n-fits));
+        entries = as-it-is (ends .entries) (omega (arith, cycles, n, n-fits));
+        used = as-it-is (ends .used) (omega (arith, place, u, session-fits));
+        leaps-least = omega (arith, leaps, least);
+        leaps-most = omega (arith, leaps, slices, most);
+      }
+
+  -- so are the night's, where there is room for the rest of the session
+  pub night-sums : (room : ℕ) → length (asked .session) ≤ room → SumsAs (nightOf asked m given room) asked (ranOf asked m given)
+  unfolding nightOf
+  night-sums room l =
+      subst (λ (s : Standing). SumsAs s asked (ranOf asked m given)) (sym (passes _ _ (le-ltb room (length (asked .session)) l))) slices-sums
