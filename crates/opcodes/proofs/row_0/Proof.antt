@@ -42,4 +42,5 @@ row-0-spec =
     (λ c. rw (c .before .match .keys11) (c .alone11 .ensures))
     (λ c. rw (c .before .match .keys12) (c .alone12 .ensures))
     (λ c. rw (c .before .match .keys13) (c .alone13 .ensures))
-    (λ c. others (λ (k : ℕ). getD row0 k Undefined) (λ _. Undefined) (each (0xF ∷ 0xE ∷ 0xD ∷ 0xC ∷ 0xB ∷ 0xA ∷ 0x9 ∷ 0x8 ∷ 0x7 ∷ 0x6 ∷ 0x5 ∷ 0x4 ∷ 0x1 ∷ [])) 16 refl _ (omega arith) (c .match .rest)))
+    (λ c. others (λ (k : ℕ). getD row0 k Undefined) (λ _. Undefined)
+    (each (0xF ∷ 0xE ∷ 0xD ∷ 0xC ∷ 0xB ∷ 0xA ∷ 0x9 ∷ 0x8 ∷ 0x7 ∷ 0x6 ∷ 0x5 ∷ 0x4 ∷ 0x1 ∷ [])) 16 refl _ (omega arith) (c .match .rest)))

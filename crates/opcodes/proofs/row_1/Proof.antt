@@ -28,4 +28,5 @@ row-1-spec =
     (λ c. rw (c .before .match .keys4) (c .alone4 .ensures))
     (λ c. rw (c .before .match .keys5) (c .alone5 .ensures))
     (λ c. rw (c .before .match .keys6) (c .alone6 .ensures))
-    (λ c. others (λ (k : ℕ). getD row1 k Undefined) (λ _. Undefined) (each (0xB ∷ 0x9 ∷ 0x7 ∷ 0x6 ∷ 0x1 ∷ 0x0 ∷ [])) 16 refl _ (omega arith) (c .match .rest)))
+    (λ c. others (λ (k : ℕ). getD row1 k Undefined) (λ _. Undefined)
+    (each (0xB ∷ 0x9 ∷ 0x7 ∷ 0x6 ∷ 0x1 ∷ 0x0 ∷ [])) 16 refl _ (omega arith) (c .match .rest)))

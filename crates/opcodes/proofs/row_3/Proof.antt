@@ -49,4 +49,5 @@ row-3-spec =
     (λ c. rw (c .before .match .keys14) (c .alone6 .ensures))
     (λ c. rw (c .before .match .keys15) (c .inherent9 .ensures))
     (λ c. rw (c .inherent10 .ensures)
-    (others (λ (k : ℕ). getD row3 k Undefined) (λ _. inherentEntry Swi 12) (each (0xE ∷ 0xD ∷ 0xC ∷ 0xB ∷ 0xA ∷ 0x9 ∷ 0x8 ∷ 0x7 ∷ 0x6 ∷ 0x5 ∷ 0x4 ∷ 0x3 ∷ 0x2 ∷ 0x1 ∷ 0x0 ∷ [])) 16 refl _ (omega arith) (c .before .match .rest))))
+    (others (λ (k : ℕ). getD row3 k Undefined) (λ _. inherentEntry Swi 12)
+    (each (0xE ∷ 0xD ∷ 0xC ∷ 0xB ∷ 0xA ∷ 0x9 ∷ 0x8 ∷ 0x7 ∷ 0x6 ∷ 0x5 ∷ 0x4 ∷ 0x3 ∷ 0x2 ∷ 0x1 ∷ 0x0 ∷ [])) 16 refl _ (omega arith) (c .before .match .rest))))
