@@ -91,6 +91,12 @@ static void show_bytes(const char *name, const uint8_t *bytes, uint64_t count) {
     for (uint64_t i = 0; i < count; i++) printf(" %02X", bytes[i]);
 }
 
+/* Whether every byte is still 0xEE, as it was lent. */
+static int untouched(const uint8_t *bytes, size_t length) {
+    while (length > 0 && bytes[length - 1] == 0xEE) length--;
+    return length == 0;
+}
+
 static int run_night(uint8_t *machine) {
     uint64_t now = 0;
     size_t next = 0;
@@ -105,17 +111,17 @@ static int run_night(uint8_t *machine) {
             printf("\n");
             return 1;
         }
-        uint64_t sent = number_at(result + 24, 8);
-        show("cycles", result + 4, 4);
-        show("instr", result + 8, 4);
-        show("entries", result + 12, 4);
-        show("used", result + 16, 8);
-        show("sent", result + 24, 8);
-        show("leaps", result + 40, 4);
+        uint64_t sent = number_at(result + PLIRUZZA_AT_SENT, 8);
+        show("cycles", result + PLIRUZZA_AT_CYCLES, 4);
+        show("instr", result + PLIRUZZA_AT_INSTRUCTIONS, 4);
+        show("entries", result + PLIRUZZA_AT_ENTRIES, 4);
+        show("used", result + PLIRUZZA_AT_USED, 8);
+        show("sent", result + PLIRUZZA_AT_SENT, 8);
+        show("leaps", result + PLIRUZZA_AT_LEAPS, 4);
         if (sent) show_bytes("out", output, sent);
         printf("\n");
-        now += number_at(result + 4, 4);
-        next += number_at(result + 16, 8);
+        now += number_at(result + PLIRUZZA_AT_CYCLES, 4);
+        next += number_at(result + PLIRUZZA_AT_USED, 8);
     }
     printf("night cycles %llu bytes %u doors %u status %02X\n", (unsigned long long)now, image[0x80], image[0x81], image[0x82]);
     return 0;
@@ -169,23 +175,25 @@ static int compare_runs(const uint8_t *machine) {
     show_bytes("and", leaping.result, PLIRUZZA_LEAPING);
     printf("\n");
     if (run_leaping(&sliced, stretch, sizeof stretch, 2008, 0) != 0) return 1;
-    uint32_t cycles = (uint32_t)number_at(sliced.result + 4, 4);
-    size_t used = (size_t)number_at(sliced.result + 16, 8), sent = (size_t)number_at(sliced.result + 24, 8);
+    uint32_t cycles = (uint32_t)number_at(sliced.result + PLIRUZZA_AT_CYCLES, 4);
+    size_t used = (size_t)number_at(sliced.result + PLIRUZZA_AT_USED, 8);
+    size_t sent = (size_t)number_at(sliced.result + PLIRUZZA_AT_SENT, 8);
     uint32_t reply = pliruzza_rest(stretch, sizeof stretch, used, cycles, rest, sizeof rest, told, sizeof told);
     if (reply != 0) return 1;
     printf("after %u cycles: rest %u of %u bytes,", (unsigned)cycles, (unsigned)reply, (unsigned)number_at(told, 8));
     if (run_leaping(&sliced, rest, (size_t)number_at(told, 8), STRETCH - cycles, sent) != 0) return 1;
-    printf(" then %u cycles, %s\n", (unsigned)number_at(sliced.result + 4, 4), alike(&sliced, &leaping));
+    printf(" then %u cycles, %s\n", (unsigned)number_at(sliced.result + PLIRUZZA_AT_CYCLES, 4), alike(&sliced, &leaping));
     return 0;
 }
 
+/* The rest with one thing wrong: its buffer stays as it was, and so does the result but for 4 to 7. */
 static void refuse_rest(size_t length, size_t used, size_t rest_length, size_t told_length) {
     uint8_t rest[sizeof stretch], told[PLIRUZZA_REST];
     memset(rest, 0xEE, sizeof rest);
     memset(told, 0xEE, sizeof told);
     uint32_t reply = pliruzza_rest(stretch, length, used, 2010, rest, rest_length, told, told_length);
-    printf("rest: %u%s", (unsigned)reply, rest[0] == 0xEE ? "" : " CHANGED");
-    if (told[0] == 0xEE) printf(" nothing written\n");
+    printf("rest: %u%s", (unsigned)reply, untouched(rest, sizeof rest) ? "" : " CHANGED");
+    if (untouched(told, sizeof told)) printf(" nothing written\n");
     else printf(" record %u\n", (unsigned)number_at(told, 8));
 }
 
@@ -221,7 +229,10 @@ static void refuse(const struct wrong *w) {
     uint8_t machine[PLIRUZZA_MACHINE], machine_before[PLIRUZZA_MACHINE];
     uint8_t output[4] = {1, 2, 3, 4}, result[PLIRUZZA_LEAPING];
     memset(result, 0xEE, sizeof result);
-    pliruzza_power_on(image, sizeof image, 0xF000, machine, sizeof machine);
+    if (pliruzza_power_on(image, sizeof image, 0xF000, machine, sizeof machine) != 0) {
+        printf("%s: no machine\n", w->what);
+        return;
+    }
     if (w->byte >= 0) machine[w->byte] = w->value;
     memcpy(machine_before, machine, sizeof machine);
     memcpy(image_before, image, sizeof image);
@@ -230,8 +241,8 @@ static void refuse(const struct wrong *w) {
     int kept = !memcmp(image, image_before, sizeof image) && !memcmp(machine, machine_before, sizeof machine)
                && !memcmp(output, "\1\2\3\4", 4);
     printf("%s: %u%s", w->what, (unsigned)reply, kept ? "" : " CHANGED");
-    if (result[0] == 0xEE) printf(" nothing written\n");
-    else printf(" record %llu\n", (unsigned long long)number_at(result + 32, 8));
+    if (untouched(result, sizeof result)) printf(" nothing written\n");
+    else printf(" record %llu\n", (unsigned long long)number_at(result + PLIRUZZA_AT_RECORD, 8));
 }
 
 static void ask(uint8_t opcode) {
@@ -242,8 +253,11 @@ static void ask(uint8_t opcode) {
     printf("\n");
 }
 
+/* Power-on, into 42 bytes of 0xEE: a refusal leaves them. */
 static void power_on(size_t image_length, uint32_t r, uint8_t *machine, size_t machine_length) {
-    printf("power-on %u\n", (unsigned)pliruzza_power_on(image, image_length, r, machine, machine_length));
+    memset(machine, 0xEE, PLIRUZZA_MACHINE);
+    uint32_t reply = pliruzza_power_on(image, image_length, r, machine, machine_length);
+    printf("power-on %u%s\n", (unsigned)reply, reply == 0 || untouched(machine, PLIRUZZA_MACHINE) ? "" : " CHANGED");
 }
 
 int main(void) {

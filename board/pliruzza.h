@@ -38,10 +38,30 @@ extern "C" {
 enum {
     PLIRUZZA_IMAGE = 65536,   /* bytes of an image: the whole address space */
     PLIRUZZA_MACHINE = 42,    /* bytes of a saved machine (docs/FORMATS.md) */
+    PLIRUZZA_REST = 8         /* bytes of the result of the rest of a session */
+};
+
+/* What the code writes, and where: the gate holds these lines to what the program crates/board_layout prints. */
+enum {
     PLIRUZZA_SINGLE = 40,     /* bytes of the single run's result */
     PLIRUZZA_LEAPING = 44,    /* bytes of the leaping run's result */
-    PLIRUZZA_REST = 8,        /* bytes of the result of the rest of a session */
-    PLIRUZZA_ANSWER = 6       /* bytes of the answer about an opcode */
+    PLIRUZZA_ANSWER = 6,      /* bytes of the answer about an opcode */
+    /* places in a run's result; numbers of 4 or 8 bytes, little-endian */
+    PLIRUZZA_AT_REPLY = 0,
+    PLIRUZZA_AT_CYCLES = 4,
+    PLIRUZZA_AT_INSTRUCTIONS = 8,
+    PLIRUZZA_AT_ENTRIES = 12,
+    PLIRUZZA_AT_USED = 16,
+    PLIRUZZA_AT_SENT = 24,
+    PLIRUZZA_AT_RECORD = 32,
+    PLIRUZZA_AT_LEAPS = 40,
+    /* places in the answer about an opcode, a byte each */
+    PLIRUZZA_AT_GROUP = 0,
+    PLIRUZZA_AT_OPERATION = 1,
+    PLIRUZZA_AT_ACCUMULATOR = 2,
+    PLIRUZZA_AT_PLACE = 3,
+    PLIRUZZA_AT_LENGTH = 4,
+    PLIRUZZA_AT_CYCLES_TAKEN = 5
 };
 
 /* Power-on: the machine after reset, its PC from $FFFE of the image, is saved into `machine`. R is the start of read-only memory.
