@@ -2,7 +2,6 @@
 -- leaps are the run's, or more by at most one for each cut. Assumes nothing.
 use Prim.Native.Nat.{ℕ, zero, suc, _+_, _-_, _≤_, _<_, _%_, _^_}
 use native.Mathlib.Omega.{arith}
-use mathlib.Core.List.{List}
 use mathlib.Core.Option.{none}
 use mathlib.Core.Path.{_≡_, refl, sym, ap, subst, _∙_}
 use mathlib.Core.Bool.{Bool, true, false}
@@ -25,10 +24,10 @@ use Rattle.composing.proofs.Second.{used-within}
 use Rattle.night_slices.specs.Slices.{Standing, roundSum, sliceOf, goesOn, slicesOf, nightAt, nightOf}
 use Rattle.night_slices.proofs.Going.{slice-falls, slices-more, slices-done}
 use Rattle.night_theorems.proofs.OneRun.{sum-twice, below, runFrom, next, Good, n₁, given, first, slice-next, next-good, last-whole}
-use Rattle.night_theorems.proofs.OneRun.{second, next-run, goes-raised, EndsAs, slices-one-run}
+use Rattle.night_theorems.proofs.OneRun.{second, next-run, goes-raised, slices-one-run}
 
 -- what the slices from a standing on come to, beside the one run of the cycles that are left
-record Comes (s : Standing) (e : Ended) (end : Standing) : Type 0 where
+record SlicesCome (s : Standing) (e : Ended) (end : Standing) : Type 0 where
   slices : ℕ
   leaps : ℕ
   slices-told : end .slices ≡ roundSum (s .slices) slices
@@ -41,7 +40,7 @@ record Comes (s : Standing) (e : Ended) (end : Standing) : Type 0 where
 
 module _ (s : Standing) (g : Good s) where
   -- the last slice
-  last-comes : Comes s (first s g) (next s (first s g))
+  last-comes : SlicesCome s (first s g) (next s (first s g))
   last-comes =
       record {
         slices = 1;
@@ -57,7 +56,7 @@ module _ (s : Standing) (g : Good s) where
 
   -- a slice that goes on, and those after it
   goes-comes : goesOn (next s (first s g)) ≡ true → next s (first s g) .left < s .left → (end : Standing)
-      → Comes (next s (first s g)) (second s g) end → Comes s (runFrom s (s .left)) end
+      → SlicesCome (next s (first s g)) (second s g) end → SlicesCome s (runFrom s (s .left)) end
   goes-comes f l end c =
       let x = first s g .world .state in
       let y = second s g .world .state in
@@ -88,24 +87,24 @@ module _ (s : Standing) (g : Good s) where
         left = omega (arith, left, cycles);
       }
 
-slices-come : (k : ℕ) (s : Standing) → Good s → s .left < k → Comes s (runFrom s (s .left)) (slicesOf s)
+slices-come : (k : ℕ) (s : Standing) → Good s → s .left < k → SlicesCome s (runFrom s (s .left)) (slicesOf s)
 slices-come zero s g l = absurd (let z : ⊥ = omega arith in z)
 slices-come (suc k) s g l = by (λ t. slices-come k t) (goesOn (sliceOf s)) refl
   where
     e : sliceOf s ≡ next s (first s g)
     e = slice-next s g
 
-    by : ((t : Standing) → Good t → t .left < k → Comes t (runFrom t (t .left)) (slicesOf t)) → (b : Bool) → goesOn (sliceOf s) ≡ b
-        → Comes s (runFrom s (s .left)) (slicesOf s)
+    by : ((t : Standing) → Good t → t .left < k → SlicesCome t (runFrom t (t .left)) (slicesOf t)) → (b : Bool) → goesOn (sliceOf s) ≡ b
+        → SlicesCome s (runFrom s (s .left)) (slicesOf s)
     by ih true f =
         let t = next s (first s g) in
         let falls : t .left < s .left = subst (λ (x : Standing). x .left < s .left) e (slice-falls s f) in
-        subst (Comes s (runFrom s (s .left))) (sym (slices-more s f ∙ ap slicesOf e))
+        subst (SlicesCome s (runFrom s (s .left))) (sym (slices-more s f ∙ ap slicesOf e))
         (goes-comes s g (subst (λ (x : Standing). goesOn x ≡ true) e f) falls (slicesOf t)
-        (subst (λ (x : Ended). Comes t x (slicesOf t)) (sym (next-run s g)) (ih t (next-good s g) (below (t .left) (s .left) k falls l))))
+        (subst (λ (x : Ended). SlicesCome t x (slicesOf t)) (sym (next-run s g)) (ih t (next-good s g) (below (t .left) (s .left) k falls l))))
     by ih false f =
-        subst (Comes s (runFrom s (s .left))) (sym (slices-done s f ∙ e))
-        (subst (λ (x : Ended). Comes s x (next s (first s g))) (sym (last-whole s g (subst (λ (x : Standing). goesOn x ≡ false) e f))) (last-comes s g))
+        subst (SlicesCome s (runFrom s (s .left))) (sym (slices-done s f ∙ e))
+        (subst (λ (x : Ended). SlicesCome s x (next s (first s g))) (sym (last-whole s g (subst (λ (x : Standing). goesOn x ≡ false) e f))) (last-comes s g))
 
 -- A night's rest, the cycles that are left and its sums are those of the run, with no going round; its leaps are the run's, or more by at
 -- most one for each slice but the first.
