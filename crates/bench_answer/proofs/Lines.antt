@@ -1,14 +1,13 @@
 -- The bench program's line: it has at most 201 bytes, so that it is shown whole, and it is `refused 10` exactly where the input is
 -- bad. Assumes nothing.
-use Prim.Native.Nat.{ℕ, _%_, _≤_}
+use Prim.Native.Nat.{ℕ, _≤_}
 use native.Mathlib.Omega.{arith}
 use mathlib.Core.Path.{_≡_, refl, sym, ap, _∙_}
 use mathlib.Core.Logic.{_↔_}
 use mathlib.Core.Bool.{Bool, true, false, cond}
-use mathlib.Core.List.{List, [], _∷_, _++_}
+use mathlib.Core.List.{List, [], _++_}
 use mathlib.Core.Option.{Option, none, some}
 use lib.ListN.{length, getD, replicate}
-use borrow.Author.Tests.{lt-ltb}
 use Rattle.asking.specs.Asking.{Given, gives, replies}
 use Rattle.power.specs.Power.{toldPower}
 use Rattle.replies.specs.Replies.{stops}
@@ -24,7 +23,7 @@ use Rattle.bench_input.specs.declared.Input.the-variants.{Bad, Run}
 use Rattle.bench_input.specs.Input.{isGood, inputOf}
 use Rattle.bench_input.proofs.Laws.{loaded-bad, loaded-run}
 use Rattle.printing.specs.declared.Line.{Line}
-use Rattle.printing.specs.Printing.{ascii, emptyLine, putsOf, shown, digitOf, decimalFrom, decimalOf}
+use Rattle.printing.specs.Printing.{ascii, emptyLine, putsOf, shown, decimalFrom, decimalOf}
 use Rattle.printing.proofs.Shown.{shown-whole, Short, _then_, short, decimal-short, one-digit}
 use Rattle.lines.specs.Lines.{refusedText, refusal}
 use Rattle.lines.proofs.Short.{counts-short, registers-short, refused-short}

@@ -1,27 +1,27 @@
 -- The longest stretches of a list of marks are the groups that are stretches. Assumes nothing.
 use mathlib.Core.Path.{_≡_, refl, sym, ap, subst, _∙_}
 use mathlib.Core.Logic.{_↔_}
-use mathlib.Core.Bool.{Bool, true, false, cond, _&&_, true≢false}
+use mathlib.Core.Bool.{Bool, true, false, _&&_, true≢false}
 use mathlib.Core.List.{List, [], _∷_, _++_, append-assoc, append-nil, nil≢cons, cons≢nil, head-eq-of-cons-eq}
 use Rattle.laws.proofs.Bools.{both}
 use Rattle.laws.proofs.Conds.{picks, passes}
 use Rattle.boundary_theorems.specs.Trace.{TraceMark, waits, quiet, every, isStretch, joins, groups, flat, Longest, Group}
-use Rattle.boundary_theorems.proofs.Stretches.{Proper, lastOf, headOf, Cut, groups-split, neighbours, front}
+use Rattle.boundary_theorems.proofs.Stretches.{Proper, lastOf, Cut, groups-split, neighbours, front}
 
 not-true : (b : Bool) → (b ≡ true → ⊥) → b ≡ false
 not-true true h = absurd (h refl)
 not-true false h = refl
 
 -- the last mark of a list, and those before it
-record Ending (ms : List TraceMark) : Type 0 where
+record LastMark (ms : List TraceMark) : Type 0 where
   init : List TraceMark
   last : TraceMark
   parts : ms ≡ init ++ last ∷ []
 
-ending : (m : TraceMark) (ms : List TraceMark) → Ending (m ∷ ms)
-ending m [] = record { init = []; last = m; parts = refl }
-ending m (x ∷ ms) =
-    let e = ending x ms in
+last-mark : (m : TraceMark) (ms : List TraceMark) → LastMark (m ∷ ms)
+last-mark m [] = record { init = []; last = m; parts = refl }
+last-mark m (x ∷ ms) =
+    let e = last-mark x ms in
     record { init = m ∷ e .init; last = e .last; parts = ap (λ (l : List TraceMark). m ∷ l) (e .parts) }
 
 last-append : (xs : List TraceMark) (y : TraceMark) (ys : List TraceMark) → lastOf (xs ++ y ∷ ys) ≡ lastOf (y ∷ ys)
@@ -29,7 +29,7 @@ last-append [] y ys = refl
 last-append (x ∷ []) y ys = refl
 last-append (x ∷ z ∷ xs) y ys = last-append (z ∷ xs) y ys
 
-last-is : {ms : List TraceMark} (e : Ending ms) → lastOf ms ≡ e .last ∷ []
+last-is : {ms : List TraceMark} (e : LastMark ms) → lastOf ms ≡ e .last ∷ []
 last-is e = ap lastOf (e .parts) ∙ last-append (e .init) (e .last) []
 
 -- a stretch less its first mark, and with one more before it
@@ -143,7 +143,7 @@ module _ (before : List TraceMark) (m : TraceMark) (p after : List TraceMark) (s
   none-before : (a b c : List TraceMark) → before ≡ a ++ b → isStretch (b ++ (m ∷ p) ++ c) ≡ true → b ≡ []
   none-before a [] c e t = refl
   none-before a (y ∷ ys) c e t =
-      let k = ending y ys in
+      let k = last-mark y ys in
       let apart : isStretch (k .last ∷ m ∷ []) ≡ false =
       cut-before m p (g .later) (g .earlier) proper cuts (k .last) (ap lastOf (g .before-it ∙ e) ∙ last-append a y ys ∙ last-is k) in
       let same : (y ∷ ys) ++ (m ∷ p) ++ c ≡ k .init ++ k .last ∷ m ∷ (p ++ c) =
@@ -155,7 +155,7 @@ module _ (before : List TraceMark) (m : TraceMark) (p after : List TraceMark) (s
   none-after : (b c d : List TraceMark) → after ≡ c ++ d → isStretch (b ++ (m ∷ p) ++ c) ≡ true → c ≡ []
   none-after b [] d e t = refl
   none-after b (x ∷ c) d e t =
-      let k = ending m p in
+      let k = last-mark m p in
       let apart : isStretch (k .last ∷ x ∷ []) ≡ false =
       subst (λ (l : List TraceMark). isStretch (l ++ x ∷ []) ≡ false) (last-is k)
       (cut-after (m ∷ p) (g .later) (proper-rest (m ∷ p) (g .later) (proper-from m p (g .later) (g .earlier) proper))

@@ -1,5 +1,5 @@
--- The counts of a run are those of its boundaries, told one by one: its leaps are the longest stretches of waiting cycles, its
--- entries and instructions the boundaries that took steps 4 and 6. Assumes nothing.
+-- The counts of a run are those of its boundaries, told one by one: its leaps are the longest stretches of waiting cycles (Longest.antt:
+-- `longest-groups`), its entries and instructions the boundaries that took steps 4 and 6. Assumes nothing.
 use Prim.Native.Nat.{ℕ, _+_}
 use mathlib.Core.Path.{_≡_, refl, sym, ap, subst, _∙_}
 use mathlib.Core.Bool.{Bool, true, false, not, cond, _&&_}
@@ -19,7 +19,7 @@ use Rattle.machine.specs.Interrupts.{pendingOf}
 use Rattle.machine.specs.Steps.{lookOf}
 use Rattle.boundary.specs.declared.State.{State}
 use Rattle.boundary.specs.declared.Stop.the-variants.{Full}
-use Rattle.boundary.specs.World.{Lent, memoriesIn, Terms, World, worldOf, Ended, endedOf}
+use Rattle.boundary.specs.World.{Lent, memoriesIn, Terms, World, Ended, endedOf}
 use Rattle.boundary.specs.Boundary.{recordTaken, due, recordsOf, fedWorld, sendsOf, sentState, sentWorld, enteredWorld, waitedState, waitedWorld}
 use Rattle.boundary.specs.Boundary.{executedOf, onPending, actOf, sendOf, boundaryOf, runOf}
 use Rattle.boundary.specs.Start.{startWorld, ranOf}

@@ -101,7 +101,7 @@ pub record Longest (before part after : List TraceMark) : Type 0 where
   pub stretch : isStretch part ≡ true
   pub alone : (a b c d : List TraceMark) → before ≡ a ++ b → after ≡ c ++ d → isStretch (b ++ part ++ c) ≡ true → (b ≡ []) × (c ≡ [])
 
--- it is one of the groups
+-- groups put together, and that a part is one of the groups
 abbrev pub flat : List (List TraceMark) → List TraceMark
 flat [] = []
 flat (g ∷ gs) = g ++ flat gs

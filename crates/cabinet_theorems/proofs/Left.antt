@@ -1,14 +1,14 @@
 -- What a public run leaves behind: nothing changed and all counts zero after 1 to 7; and, whatever the reply, the bytes of the output
 -- after the sent ones, the lengths, the machine's ranges and the bounds of the counts. Assumes nothing.
-use Prim.Native.Nat.{ℕ, _+_, _≤_}
+use Prim.Native.Nat.{_+_, _≤_}
 use native.Mathlib.Omega.{arith}
 use mathlib.Core.Path.{_≡_, refl, subst, sym}
-use mathlib.Core.List.{List, _++_}
+use mathlib.Core.List.{_++_}
 use lib.ListN.{length, take, drop}
 use Rattle.machine.specs.declared.Machine.{Machine}
 use Rattle.machine.specs.Machine.{Ranges}
 use Rattle.machine.proofs.Ranges.{ranges-say, say-ranges}
-use Rattle.boundary.specs.World.{Lent, Terms, World}
+use Rattle.boundary.specs.World.{Lent, Terms}
 use Rattle.boundary.specs.Start.{startWorld, ranOf}
 use Rattle.boundary_theorems.specs.Trace as trace
 use Rattle.turns.specs.Recorded.{total}
@@ -80,7 +80,7 @@ module _ (asked : Terms) (m : Machine) (given : Lent) where
       left-cases asked m given (λ w. w .state .cycles .0 ≤ asked .limit + 11) (omega arith)
       (λ f. cycles-bound asked m given)
 
-  -- the counts are those of the run's boundaries: leaps are 01's longest stretches of waiting cycles
+  -- the counts are those of the run's boundaries: leaps are 01's longest stretches of waiting cycles (boundary_theorems: `longest-groups`)
   pub counts-left : Admitted asked m given
       → let a = answerOf asked m given in
       let marks = trace.traceOf asked (startWorld m given) in

@@ -6,7 +6,7 @@ use native.Mathlib.Omega.{arith}
 use mathlib.Core.List.{List, []}
 use mathlib.Core.Path.{_≡_, refl, sym, ap, subst, _∙_}
 use mathlib.Core.Bool.{Bool, true, false}
-use lib.ListN.{length, take, drop, take-append-drop}
+use lib.ListN.{length, take, take-append-drop}
 use Rattle.session.specs.Session.{nextAt, checkOf}
 use Rattle.session.specs.declared.Checked.the-variants.{Sound}
 use Rattle.machine.specs.declared.Machine.{Machine}

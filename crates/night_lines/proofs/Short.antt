@@ -1,11 +1,10 @@
 -- A night's lines are shown whole: a slice's line has at most 216 bytes, the night's at most 243. Assumes nothing.
 use Prim.Native.Nat.{ℕ, _≤_}
 use native.Mathlib.Omega.{arith}
-use mathlib.Core.List.{List, _++_}
+use mathlib.Core.List.{_++_}
 use mathlib.Core.Path.{_≡_, refl, sym, ap, _∙_}
 use mathlib.Core.Bool.{Bool, true, false, cond, _||_, true≢false}
 use lib.Dec.{eqb}
-use lib.ListN.{length}
 use borrow.Author.Tests.{eqb-true}
 use Rattle.registers.specs.declared.Registers.{Registers}
 use Rattle.replies.specs.Replies.{Told, stops}

@@ -1,8 +1,8 @@
 -- The laws of what a slice keeps: with room for the whole session there is room for its rest, which then stands in its place. Assumes nothing.
-use Prim.Native.Nat.{ℕ, _≤_, _<_}
+use Prim.Native.Nat.{ℕ, _≤_}
 use native.Mathlib.Omega.{arith}
 use mathlib.Core.List.{List, _++_}
-use mathlib.Core.Path.{_≡_, refl, sym, ap, subst, _∙_}
+use mathlib.Core.Path.{_≡_, refl, sym, ap, _∙_}
 use mathlib.Core.Bool.{true, false}
 use lib.ListN.{length, take, drop, length-take}
 use lib.Seq.{length-take-le, take-all, take-at}
@@ -16,7 +16,7 @@ use Rattle.rest.specs.declared.Rested.{Rested}
 use Rattle.rest.proofs.Places.{place-sound}
 use Rattle.rest.proofs.Laws.{rest-length}
 use Rattle.rest.proofs.Exactly.{answer-cases, rest-4-to-7, rest-30, rest-written, rest-left}
-use Rattle.night_slices.specs.Slices.{Keeping, keeping, onKeep, keepingOf}
+use Rattle.night_slices.specs.Slices.{keeping, onKeep, keepingOf}
 
 module _ (s : List ℕ) (u c : ℕ) where
   abbrev rest : List ℕ

@@ -2,11 +2,11 @@
 use Prim.Native.Nat.{ℕ, _+_, _-_, _≤_, _<_}
 use native.Mathlib.Nat.{le-of-eq}
 use native.Mathlib.Omega.{arith}
-use mathlib.Core.List.{List, [], _++_, append-nil}
-use mathlib.Core.Path.{_≡_, refl, sym, ap, _∙_}
+use mathlib.Core.List.{List, _++_, append-nil}
+use mathlib.Core.Path.{_≡_, ap, _∙_}
 use lib.ListN.{length, take, drop, length-drop, drop-of-length-le}
 use Rattle.replies.specs.Replies.{toldReply}
-use Rattle.boundary.specs.World.{lent, Lent, withOutput, terms}
+use Rattle.boundary.specs.World.{lent, withOutput, terms}
 use Rattle.boundary.proofs.Output.{filled-part}
 use Rattle.cabinet.specs.declared.Leapt.{Leapt}
 use Rattle.cabinet.specs.Answers.{Answer, answered, answerOf, leapsOf}

@@ -15,7 +15,7 @@ ghost use mathlib.Core.List.{[]};
 ghost use Prim.Native.Nat.{_-_, _+_, _^_, _≤_, _<_, min};
 ghost use lib.Dec.{eqb};
 ghost use lib.ListN.{length, take};
-ghost use Rattle.replies.specs.Replies.{told, toldReply, stops};
+ghost use Rattle.replies.specs.Replies.{toldReply, stops};
 ghost use Rattle.boundary.specs.World.{lent, terms};
 ghost use Rattle.printing.specs.Printing.{emptyLine, putsOf};
 ghost use Rattle.night_lines.specs.NightLines.{sliceText, endText};

@@ -44,12 +44,12 @@ end-known NoRoom TooFew e = absurd (let n = ap (λ (t : Told). t .number) e in l
 end-known NoRoom NoRoom e = refl
 
 -- a result, with what was lent and the session's buffer as they are left
-pub record Left : Type 0 where
+pub record NightLeft : Type 0 where
   pub night : Night
   pub lent : Lent
   pub buffer : List ℕ
 
-pub record Agree (a b : Left) : Type 0 where
+pub record NightsAgree (a b : NightLeft) : Type 0 where
   pub ended : a .night .ended ≡ b .night .ended
   pub machine : a .night .machine ≡ b .night .machine
   pub lent : a .lent ≡ b .lent
@@ -65,10 +65,10 @@ pub record Agree (a b : Left) : Type 0 where
 
 module _ (asked : Terms) (m : Machine) (given : Lent) (room : ℕ) where
   -- what the contract says of a result
-  abbrev pub Gives : Left → Type 0
-  Gives a = standing (a .night) (a .lent) (a .buffer) ≡ nightOf asked m given room
+  abbrev pub NightGives : NightLeft → Type 0
+  NightGives a = standing (a .night) (a .lent) (a .buffer) ≡ nightOf asked m given room
 
-  pub night-settled : (a b : Left) → Gives a → Gives b → Agree a b
+  pub night-settled : (a b : NightLeft) → NightGives a → NightGives b → NightsAgree a b
   night-settled a b p q =
       let e = p ∙ sym q in
       record {

@@ -1,13 +1,14 @@
 -- What a night sums up and leaves, beside the one run: its rest is the run's rest, its sums are the run's counts and pass no type, and its
 -- leaps are the run's, or more by at most one for each cut. Assumes nothing.
-use Prim.Native.Nat.{ℕ, zero, suc, _+_, _-_, _≤_, _<_, _%_, _^_}
+use Prim.Native.Nat.{ℕ, zero, suc, _+_, _-_, _/_, _≤_, _<_, _%_, _^_}
 use native.Mathlib.Omega.{arith}
-use mathlib.Core.List.{List}
 use mathlib.Core.Option.{none}
 use mathlib.Core.Path.{_≡_, refl, sym, ap, subst, _∙_}
 use mathlib.Core.Bool.{Bool, true, false}
+use lib.Dec.{eqb}
 use lib.ListN.{length}
-use borrow.Author.Tests.{le-ltb}
+use borrow.Author.Tests.{le-ltb, ltb-true}
+use Rattle.laws.proofs.Bools.{both}
 use Rattle.laws.proofs.Conds.{passes}
 use Rattle.session.specs.Session.{checkOf}
 use Rattle.session.specs.declared.Checked.the-variants.{Sound}
@@ -15,25 +16,26 @@ use Rattle.replies.specs.Replies.{told}
 use Rattle.machine.specs.declared.Machine.{Machine}
 use Rattle.machine.specs.Machine.{Ranges}
 use Rattle.machine.proofs.Ranges.{say-ranges}
-use Rattle.boundary.specs.World.{Lent, Terms, World, Ended}
-use Rattle.boundary.specs.Start.{ranOf}
-use Rattle.boundary.proofs.Kept.{cycles-bound, counts-fine, place-within}
+use Rattle.boundary.specs.World.{Lent, Terms, World, Ended, stopNumber}
+use Rattle.boundary.specs.declared.Stop.{Stop}
+use Rattle.boundary.specs.Start.{startWorld, ranOf}
+use Rattle.boundary.proofs.Kept.{Reached, limit-reached, cycles-bound, counts-fine, place-within}
 use Rattle.rest.specs.Rest.{restOf}
 use Rattle.rest.proofs.Again.{rest-of-rest}
 use Rattle.composing.proofs.Raised.{apart-most}
 use Rattle.composing.proofs.Second.{used-within}
 use Rattle.night_slices.specs.Slices.{Standing, roundSum, sliceOf, goesOn, slicesOf, nightAt, nightOf}
 use Rattle.night_slices.proofs.Going.{slice-falls, slices-more, slices-done}
-use Rattle.night_theorems.proofs.OneRun.{sum-twice, below, runFrom, next, Good, n₁, given, first, slice-next, next-good, last-whole}
-use Rattle.night_theorems.proofs.OneRun.{second, next-run, goes-raised, EndsAs, slices-one-run}
+use Rattle.night_theorems.proofs.OneRun.{sum-twice, below, runFrom, next, by-limit, Good, n₁, asked, given, first, slice-next, next-good, last-whole}
+use Rattle.night_theorems.proofs.OneRun.{second, next-run, goes-raised, slices-one-run}
 
 -- what the slices from a standing on come to, beside the one run of the cycles that are left
-record Comes (s : Standing) (e : Ended) (end : Standing) : Type 0 where
+record SlicesCome (s : Standing) (e : Ended) (end : Standing) : Type 0 where
   slices : ℕ
   leaps : ℕ
   slices-told : end .slices ≡ roundSum (s .slices) slices
   leaps-told : end .leaps ≡ roundSum (s .leaps) leaps
-  slices-few : slices ≤ s .left + 1
+  slices-few : slices ≤ s .left / 1000000000 + 1
   leaps-least : e .world .state .leaps .0 ≤ leaps
   leaps-most : leaps + 1 ≤ e .world .state .leaps .0 + slices
   rest : end .session ≡ restOf (s .session) (e .world .state .used .0) (e .world .state .cycles .0)
@@ -41,7 +43,7 @@ record Comes (s : Standing) (e : Ended) (end : Standing) : Type 0 where
 
 module _ (s : Standing) (g : Good s) where
   -- the last slice
-  last-comes : Comes s (first s g) (next s (first s g))
+  last-comes : SlicesCome s (first s g) (next s (first s g))
   last-comes =
       record {
         slices = 1;
@@ -56,9 +58,13 @@ module _ (s : Standing) (g : Good s) where
       }
 
   -- a slice that goes on, and those after it
-  goes-comes : goesOn (next s (first s g)) ≡ true → next s (first s g) .left < s .left → (end : Standing)
-      → Comes (next s (first s g)) (second s g) end → Comes s (runFrom s (s .left)) end
-  goes-comes f l end c =
+  goes-comes : goesOn (next s (first s g)) ≡ true → (end : Standing)
+      → SlicesCome (next s (first s g)) (second s g) end → SlicesCome s (runFrom s (s .left)) end
+  goes-comes f end c =
+      let reached : n₁ s g ≤ first s g .world .state .cycles .0 =
+      subst (λ (k : Stop). Reached k (n₁ s g) (first s g .world .state .cycles .0)) (by-limit (first s g .stop) _ f)
+      (limit-reached (asked s g) (startWorld (s .machine) (given s g))) in
+      let more : 0 < s .left - first s g .world .state .cycles .0 = ltb-true _ _ (both (eqb (stopNumber (first s g .stop)) 0) _ f .1) in
       let x = first s g .world .state in
       let y = second s g .world .state in
       let one = runFrom s (s .left) .world .state in
@@ -77,7 +83,7 @@ module _ (s : Standing) (g : Good s) where
         leaps = x .leaps .0 + c .leaps;
         slices-told = c .slices-told ∙ sym (sum-twice (s .slices) 1 (c .slices));
         leaps-told = c .leaps-told ∙ sym (sum-twice (s .leaps) (x .leaps .0) (c .leaps));
-        slices-few = omega (arith, few, l);
+        slices-few = omega (arith, few, reached, more);
         leaps-least = omega (arith, leaps, low, a);
         leaps-most = omega (arith, leaps, most, b);
         rest = c .rest
@@ -88,27 +94,27 @@ module _ (s : Standing) (g : Good s) where
         left = omega (arith, left, cycles);
       }
 
-slices-come : (k : ℕ) (s : Standing) → Good s → s .left < k → Comes s (runFrom s (s .left)) (slicesOf s)
+slices-come : (k : ℕ) (s : Standing) → Good s → s .left < k → SlicesCome s (runFrom s (s .left)) (slicesOf s)
 slices-come zero s g l = absurd (let z : ⊥ = omega arith in z)
 slices-come (suc k) s g l = by (λ t. slices-come k t) (goesOn (sliceOf s)) refl
   where
     e : sliceOf s ≡ next s (first s g)
     e = slice-next s g
 
-    by : ((t : Standing) → Good t → t .left < k → Comes t (runFrom t (t .left)) (slicesOf t)) → (b : Bool) → goesOn (sliceOf s) ≡ b
-        → Comes s (runFrom s (s .left)) (slicesOf s)
+    by : ((t : Standing) → Good t → t .left < k → SlicesCome t (runFrom t (t .left)) (slicesOf t)) → (b : Bool) → goesOn (sliceOf s) ≡ b
+        → SlicesCome s (runFrom s (s .left)) (slicesOf s)
     by ih true f =
         let t = next s (first s g) in
         let falls : t .left < s .left = subst (λ (x : Standing). x .left < s .left) e (slice-falls s f) in
-        subst (Comes s (runFrom s (s .left))) (sym (slices-more s f ∙ ap slicesOf e))
-        (goes-comes s g (subst (λ (x : Standing). goesOn x ≡ true) e f) falls (slicesOf t)
-        (subst (λ (x : Ended). Comes t x (slicesOf t)) (sym (next-run s g)) (ih t (next-good s g) (below (t .left) (s .left) k falls l))))
+        subst (SlicesCome s (runFrom s (s .left))) (sym (slices-more s f ∙ ap slicesOf e))
+        (goes-comes s g (subst (λ (x : Standing). goesOn x ≡ true) e f) (slicesOf t)
+        (subst (λ (x : Ended). SlicesCome t x (slicesOf t)) (sym (next-run s g)) (ih t (next-good s g) (below (t .left) (s .left) k falls l))))
     by ih false f =
-        subst (Comes s (runFrom s (s .left))) (sym (slices-done s f ∙ e))
-        (subst (λ (x : Ended). Comes s x (next s (first s g))) (sym (last-whole s g (subst (λ (x : Standing). goesOn x ≡ false) e f))) (last-comes s g))
+        subst (SlicesCome s (runFrom s (s .left))) (sym (slices-done s f ∙ e))
+        (subst (λ (x : Ended). SlicesCome s x (next s (first s g))) (sym (last-whole s g (subst (λ (x : Standing). goesOn x ≡ false) e f))) (last-comes s g))
 
--- A night's rest, the cycles that are left and its sums are those of the run, with no going round; its leaps are the run's, or more by at
--- most one for each slice but the first.
+-- A night's rest, the cycles that are left and its sums are those of the run, with no going round; it has no more slices than it needs, and
+-- its leaps are the run's, or more by at most one for each slice but the first.
 pub record SumsAs (s : Standing) (asked : Terms) (e : Ended) : Type 0 where
   pub session : s .session ≡ restOf (asked .session) (e .world .state .used .0) (e .world .state .cycles .0)
   pub left : s .left ≡ asked .limit - e .world .state .cycles .0
@@ -116,6 +122,7 @@ pub record SumsAs (s : Standing) (asked : Terms) (e : Ended) : Type 0 where
   pub instructions : s .instructions ≡ e .world .state .instructions .0
   pub entries : s .entries ≡ e .world .state .entries .0
   pub used : s .used ≡ e .world .state .used .0
+  pub slices : s .slices ≤ asked .limit / 1000000000 + 1
   pub leaps-least : e .world .state .leaps .0 ≤ s .leaps
   pub leaps-most : s .leaps + 1 ≤ e .world .state .leaps .0 + s .slices
 
@@ -155,6 +162,7 @@ module _ (asked : Terms) (m : Machine) (given : Lent)
         instructions = as-it-is (ends .instructions) (omega (arith, cycles, i, n-fits));
         entries = as-it-is (ends .entries) (omega (arith, cycles, n, n-fits));
         used = as-it-is (ends .used) (omega (arith, place, u, session-fits));
+        slices = omega (arith, slices, few);
         leaps-least = omega (arith, leaps, least);
         leaps-most = omega (arith, leaps, slices, most);
       }

@@ -25,12 +25,12 @@ module _ (s : List ℕ) (c from : ℕ) where
   tail at = restFrom s c at []
 
   -- the rest, of which the records before a place of the session stand in `w`
-  record Cut (r w : List ℕ) (at : ℕ) : Type 0 where
+  record Parted (r w : List ℕ) (at : ℕ) : Type 0 where
     parts : r ≡ w ++ tail at
     there : at ≡ from + length w
     ahead : SoundFrom s at
 
-  module _ (r w : List ℕ) (at : ℕ) (k : Cut r w at) (h : at < length s) where
+  module _ (r w : List ℕ) (at : ℕ) (k : Parted r w at) (h : at < length s) where
     from-there : Alike s r c from (length w)
     from-there = alike s c from r w at (k .parts) (k .there) h (k .ahead)
 
@@ -52,8 +52,8 @@ module _ (s : List ℕ) (c from : ℕ) where
         let y = x .long in
         omega arith
 
-    next-cut : Cut r (w ++ shiftedAt s c at) (nextAt s at)
-    next-cut =
+    next-parted : Parted r (w ++ shiftedAt s c at) (nextAt s at)
+    next-parted =
         let l = next-long in
         let o = next-same in
         record { parts = onwards; there = omega arith; ahead = sound-next s at h (k .ahead) }
@@ -111,7 +111,7 @@ module _ (s : List ℕ) (c from : ℕ) where
         ∙ ap (λ (p : List ℕ). (head ++ time (c + d)) ++ p) same-payload
 
   -- the records from a place on, shifted twice
-  rest-twice : (d f : ℕ) (r w : List ℕ) (at : ℕ) (q : List ℕ) → length s - at < f → Cut r w at
+  rest-twice : (d f : ℕ) (r w : List ℕ) (at : ℕ) (q : List ℕ) → length s - at < f → Parted r w at
       → restFrom r d (length w) q ≡ restFrom s (c + d) at q
   rest-twice d zero r w at q l k = absurd (let z : ⊥ = omega arith in z)
   rest-twice d (suc f) r w at q l k = by (λ v n p. rest-twice d f r v n p) (ltb at (length s)) refl
@@ -119,7 +119,7 @@ module _ (s : List ℕ) (c from : ℕ) where
       long : length r ≡ length w + (length s - at)
       long = ap length (k .parts) ∙ length-append w (tail at) ∙ ap (λ (j : ℕ). length w + j) (rest-length s c at (k .ahead))
 
-      by : ((v : List ℕ) (n : ℕ) (p : List ℕ) → length s - n < f → Cut r v n → restFrom r d (length v) p ≡ restFrom s (c + d) n p)
+      by : ((v : List ℕ) (n : ℕ) (p : List ℕ) → length s - n < f → Parted r v n → restFrom r d (length v) p ≡ restFrom s (c + d) n p)
           → (b : Bool) → ltb at (length s) ≡ b → restFrom r d (length w) q ≡ restFrom s (c + d) at q
       by ih false e =
           let h = ltb-false at (length s) e in
@@ -132,13 +132,13 @@ module _ (s : List ℕ) (c from : ℕ) where
           rest-more r d (length w) q (omega arith)
           ∙ ap (λ (t : List ℕ). restFrom r d (nextAt r (length w)) (q ++ t)) (shifted-twice r w at k h d)
           ∙ ap (λ (j : ℕ). restFrom r d j (q ++ shiftedAt s (c + d) at)) (sym (next-long r w at k h))
-          ∙ ih (w ++ shiftedAt s c at) (nextAt s at) (q ++ shiftedAt s (c + d) at) (omega arith) (next-cut r w at k h)
+          ∙ ih (w ++ shiftedAt s c at) (nextAt s at) (q ++ shiftedAt s (c + d) at) (omega arith) (next-parted r w at k h)
           ∙ sym (rest-more s (c + d) at q h)
 
 -- where v records more end, in the session and in its rest: at one place, or past the end of both
-data Ends (s : List ℕ) (c from : ℕ) (r : List ℕ) (at to : ℕ) : Type 0 where
-  inside : (w : List ℕ) → Cut s c from r w at → length w ≡ to → Ends s c from r at to
-  past : length s < at → length r < to → Ends s c from r at to
+data Placed (s : List ℕ) (c from : ℕ) (r : List ℕ) (at to : ℕ) : Type 0 where
+  inside : (w : List ℕ) → Parted s c from r w at → length w ≡ to → Placed s c from r at to
+  past : length s < at → length r < to → Placed s c from r at to
 
 module _ (s : List ℕ) (u c : ℕ) (sound : checkOf s ≡ Sound) (within : placeOf s u ≤ length s) where
   abbrev from : ℕ
@@ -151,12 +151,12 @@ module _ (s : List ℕ) (u c : ℕ) (sound : checkOf s ≡ Sound) (within : plac
   unfolding restOf
   long = let e = rest-length s c from (place-sound s u sound within) in omega arith
 
-  ends-next : (at to : ℕ) → Ends s c from rest at to → Ends s c from rest (nextAt s at) (nextAt rest to)
+  ends-next : (at to : ℕ) → Placed s c from rest at to → Placed s c from rest (nextAt s at) (nextAt rest to)
   ends-next at to (past h l) = let x = next-after s at in let y = next-after rest to in past (omega arith) (omega arith)
-  ends-next at to (inside w k e) = subst (λ (j : ℕ). Ends s c from rest (nextAt s at) (nextAt rest j)) e (by (ltb at (length s)) refl)
+  ends-next at to (inside w k e) = subst (λ (j : ℕ). Placed s c from rest (nextAt s at) (nextAt rest j)) e (by (ltb at (length s)) refl)
     where
-      by : (b : Bool) → ltb at (length s) ≡ b → Ends s c from rest (nextAt s at) (nextAt rest (length w))
-      by true t = let h = ltb-true at (length s) t in inside (w ++ shiftedAt s c at) (next-cut s c from rest w at k h) (next-long s c from rest w at k h)
+      by : (b : Bool) → ltb at (length s) ≡ b → Placed s c from rest (nextAt s at) (nextAt rest (length w))
+      by true t = let h = ltb-true at (length s) t in inside (w ++ shiftedAt s c at) (next-parted s c from rest w at k h) (next-long s c from rest w at k h)
       by false t =
           let h = ltb-false at (length s) t in
           let x = next-after s at in
@@ -165,7 +165,7 @@ module _ (s : List ℕ) (u c : ℕ) (sound : checkOf s ≡ Sound) (within : plac
           let l = long in
           past (omega arith) (omega arith)
 
-  ends : (v : ℕ) → Ends s c from rest (placeOf s (u + v)) (placeOf rest v)
+  ends : (v : ℕ) → Placed s c from rest (placeOf s (u + v)) (placeOf rest v)
   unfolding placeOf restOf
   ends zero =
       rw (add-zero u)
@@ -177,7 +177,7 @@ module _ (s : List ℕ) (u c : ℕ) (sound : checkOf s ≡ Sound) (within : plac
   unfolding restOf
   rest-of-rest v d = by (placeOf s (u + v)) (placeOf rest v) (ends v)
     where
-      by : (at to : ℕ) → Ends s c from rest at to → restFrom rest d to [] ≡ restFrom s (c + d) at []
+      by : (at to : ℕ) → Placed s c from rest at to → restFrom rest d to [] ≡ restFrom s (c + d) at []
       by at to (past h l) = rest-done rest d to [] (omega arith) ∙ sym (rest-done s (c + d) at [] (omega arith))
       by at to (inside w k e) =
           ap (λ (j : ℕ). restFrom rest d j []) (sym e) ∙ rest-twice s c from d (suc (length s - at)) rest w at [] (omega arith) k

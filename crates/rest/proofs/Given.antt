@@ -17,7 +17,7 @@ use Rattle.session.specs.declared.Fault.{Fault}
 use Rattle.replies.specs.Replies.{Told, told, toldFault, toldCheck}
 use Rattle.rest.specs.Rest.{placeOf, hasFewer, skipOf, restFrom, restOf}
 use Rattle.rest.specs.Ahead.{SoundFrom}
-use Rattle.rest.specs.Answers.{restWrote, refuses, toldRest, firstOf, restRefusal, answerBy, restAnswer, bufferBy, restBuffer}
+use Rattle.rest.specs.Answers.{restWrote, toldRest, firstOf, restRefusal, answerBy, restAnswer, bufferBy, restBuffer}
 use Rattle.rest.specs.declared.Rested.{Rested}
 use Rattle.rest.specs.declared.Rested.the-variants.{Written, Bad, TooFew, NoRoom}
 use Rattle.rest.proofs.Places.{place-sound}

@@ -1,5 +1,5 @@
 -- `bench_answer::answer` meets its contract: what was loaded decides. Assumes nothing.
-use Prim.Native.Nat.{ℕ, _-_, _≤_}
+use Prim.Native.Nat.{ℕ, _-_}
 use native.Mathlib.Nat.{le-of-eq}
 use mathlib.Core.List.{List}
 use mathlib.Core.Path.{_≡_, sym, ap, _∙_}

@@ -1,5 +1,5 @@
 -- `powered` meets its contract: power-on's answer decides. Assumes nothing.
-use mathlib.Core.Path.{_≡_, refl, sym, ap, _∙_}
+use mathlib.Core.Path.{_≡_, refl, ap, _∙_}
 use borrow.Author.Needs.{needs}
 use Rattle.boundary.specs.World.{Lent, lent}
 use Rattle.cabinet.specs.declared.Ran.{Ran}

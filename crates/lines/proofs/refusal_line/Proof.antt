@@ -1,5 +1,4 @@
 -- `refusal_line` meets its contract: 4 to 7 name a record, the others do not. Assumes nothing.
-use Prim.Native.Nat.{ℕ}
 use mathlib.Core.Path.{_≡_, refl, sym, ap, _∙_}
 use mathlib.Core.Bool.{Bool, true, false, _&&_, true≢false}
 use mathlib.Core.Option.{none, some, Option·getD}
