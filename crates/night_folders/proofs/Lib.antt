@@ -1,0 +1,5 @@
+pub mod Every
+pub mod Law
+pub mod Ends
+pub mod Commit
+pub mod Holes
