@@ -93,3 +93,50 @@ walk (suc k) answers own op = events op (answers 0) ++ walk k (λ j. answers (su
 abbrev pub end : ℕ → (ℕ → Bool) → Bool → Op → Op
 end zero answers own op = op
 end (suc k) answers own op = end k (λ j. answers (suc j)) own (nextOf op (answers 0) own)
+
+-- an end, or an operation that is another function's to carry out
+abbrev pub waitsOf : Op → Bool
+waitsOf Find = false
+waitsOf ReadNames = true
+waitsOf Take = false
+waitsOf Blocked = false
+waitsOf FindAgain = false
+waitsOf Settle = false
+waitsOf (GiveBack k) = false
+waitsOf Run = true
+waitsOf (Make i) = true
+waitsOf SyncNight = false
+waitsOf (Unlink i) = false
+waitsOf RemoveNight = false
+waitsOf Commit = false
+waitsOf SyncCommit = false
+waitsOf (Put i) = false
+waitsOf SyncPlaces = false
+waitsOf RemoveDone = false
+waitsOf SyncLast = false
+waitsOf Placed = true
+waitsOf (Refused k) = true
+waitsOf (Stopped k) = true
+
+abbrev pub isMake : Op → Bool
+isMake Find = false
+isMake ReadNames = false
+isMake Take = false
+isMake Blocked = false
+isMake FindAgain = false
+isMake Settle = false
+isMake (GiveBack k) = false
+isMake Run = false
+isMake (Make i) = true
+isMake SyncNight = false
+isMake (Unlink i) = false
+isMake RemoveNight = false
+isMake Commit = false
+isMake SyncCommit = false
+isMake (Put i) = false
+isMake SyncPlaces = false
+isMake RemoveDone = false
+isMake SyncLast = false
+isMake Placed = false
+isMake (Refused k) = false
+isMake (Stopped k) = false

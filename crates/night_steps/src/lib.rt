@@ -1,7 +1,7 @@
 // The sequence of a night's operations on its files: the next one, from the last one and whether it went well. A program carries them out and knows
 // no order of its own. proofs/Plan.antt: it is the sequence of night_folders' theorems, and it keeps to their rules whatever the system answers.
 ghost use mathlib.Core.Path.{_≡_};
-ghost use Rattle.night_steps.specs.Steps.{choice, afterMake, afterPut, afterUnlink, nextOf};
+ghost use Rattle.night_steps.specs.Steps.{choice, afterMake, afterPut, afterUnlink, nextOf, waitsOf, isMake};
 
 // The files of a night by number: 0 image, 1 state, 2 rest, 3 output, 4 names. The letters are the paragraphs of docs/NIGHT.md.
 pub enum Op {
@@ -90,5 +90,63 @@ pub fn next(op: Op, ok: bool, own: bool) -> Op
         Op::Placed => Op::Placed,
         Op::Refused(k) => Op::Refused(k),
         Op::Stopped(k) => Op::Stopped(k),
+    }
+}
+
+// Whether an operation is an end, or another function's to carry out: the reading of the names, the run, the making of a file.
+pub fn waits(op: Op) -> bool
+    ensures { λ r. ⌜ r ≡ waitsOf op ⌝ }
+{
+    match op {
+        Op::Find => false,
+        Op::ReadNames => true,
+        Op::Take => false,
+        Op::Blocked => false,
+        Op::FindAgain => false,
+        Op::Settle => false,
+        Op::GiveBack(k) => false,
+        Op::Run => true,
+        Op::Make(i) => true,
+        Op::SyncNight => false,
+        Op::Unlink(i) => false,
+        Op::RemoveNight => false,
+        Op::Commit => false,
+        Op::SyncCommit => false,
+        Op::Put(i) => false,
+        Op::SyncPlaces => false,
+        Op::RemoveDone => false,
+        Op::SyncLast => false,
+        Op::Placed => true,
+        Op::Refused(k) => true,
+        Op::Stopped(k) => true,
+    }
+}
+
+// Whether a file is to be made.
+pub fn is_make(op: Op) -> bool
+    ensures { λ r. ⌜ r ≡ isMake op ⌝ }
+{
+    match op {
+        Op::Find => false,
+        Op::ReadNames => false,
+        Op::Take => false,
+        Op::Blocked => false,
+        Op::FindAgain => false,
+        Op::Settle => false,
+        Op::GiveBack(k) => false,
+        Op::Run => false,
+        Op::Make(i) => true,
+        Op::SyncNight => false,
+        Op::Unlink(i) => false,
+        Op::RemoveNight => false,
+        Op::Commit => false,
+        Op::SyncCommit => false,
+        Op::Put(i) => false,
+        Op::SyncPlaces => false,
+        Op::RemoveDone => false,
+        Op::SyncLast => false,
+        Op::Placed => false,
+        Op::Refused(k) => false,
+        Op::Stopped(k) => false,
     }
 }
