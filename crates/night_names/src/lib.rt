@@ -111,7 +111,15 @@ pub fn are_names(image: &[u8], session: &[u8], state: &[u8], output: &[u8]) -> b
     let output_taken = is_of_state(output, state);
     let one = same(image, output);
     let read = is_read(session, image, state, output);
-    image_place & state_place & output_place & image_beside & output_beside & !image_taken & !output_taken & !one & read
+    image_place
+        & state_place
+        & output_place
+        & image_beside
+        & output_beside
+        & !image_taken
+        & !output_taken
+        & !one
+        & read
 }
 
 // The two names that a night commits along: the last parts of IMAGE and OUTPUT, with a `/` between them.

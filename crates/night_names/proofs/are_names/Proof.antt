@@ -9,13 +9,13 @@ unfolding areNames
 are-names-spec =
     tie.close
     (tie.spec
-    (λ c κs. search needs) -- is-place-requires
-    (λ c κs. search needs) -- is-place-requires-2
-    (λ c κs. search needs) -- is-place-requires-3
-    (λ c κs. search needs) -- is-beside-requires
-    (λ c κs. search needs) -- is-beside-requires-2
-    (λ c κs. search needs) -- is-of-state-requires
-    (λ c κs. search needs) -- is-of-state-requires-2
-    (λ c κs. search needs) -- same-requires
-    (λ c κs. search needs) -- is-read-requires
-    (λ c. rw (c .before .before .before .before .before .before .before .before .is-place .ensures, c .before .before .before .before .before .before .before .is-place2 .ensures, c .before .before .before .before .before .before .is-place3 .ensures, c .before .before .before .before .before .is-beside .ensures, c .before .before .before .before .is-beside2 .ensures, c .before .before .before .is-of-state .ensures, c .before .before .is-of-state2 .ensures, c .before .same .ensures, c .is-read .ensures))) -- returns
+    (λ c κs. search needs)  -- is-place-requires
+    (λ c κs. search needs)  -- is-place-requires-2
+    (λ c κs. search needs)  -- is-place-requires-3
+    (λ c κs. search needs)  -- is-beside-requires
+    (λ c κs. search needs)  -- is-beside-requires-2
+    (λ c κs. search needs)  -- is-of-state-requires
+    (λ c κs. search needs)  -- is-of-state-requires-2
+    (λ c κs. search needs)  -- same-requires
+    (λ c κs. search needs)  -- is-read-requires
+    (λ c. rw (c .before .before .before .before .before .before .before .before .is-place .ensures, c .before .before .before .before .before .before .before .is-place2 .ensures, c .before .before .before .before .before .before .is-place3 .ensures, c .before .before .before .before .before .is-beside .ensures, c .before .before .before .before .is-beside2 .ensures, c .before .before .before .is-of-state .ensures, c .before .before .is-of-state2 .ensures, c .before .same .ensures, c .is-read .ensures)))  -- returns

@@ -12,8 +12,8 @@ unfolding areRecorded
 are-recorded-spec =
     tie.close
     (tie.spec
-    (λ c κs. search needs) -- last-at-requires
-    (λ c κs. search needs) -- before-slash-requires
-    (λ c. let g = c .before .before .last-at .ensures .0 .0 in let h = c .before .before-slash .ensures .0 in sym (length-take-le _ _ (omega arith))) -- slice-aggregate-last-at
-    (λ c κs. search needs) -- last-at-requires-2
-    (λ c. rw (c .last-at2 .ensures .1, c .before .before .before-slash .ensures .1, c .before .before .before .last-at .ensures .1))) -- returns
+    (λ c κs. search needs)  -- last-at-requires
+    (λ c κs. search needs)  -- before-slash-requires
+    (λ c. let g = c .before .before .last-at .ensures .0 .0 in let h = c .before .before-slash .ensures .0 in sym (length-take-le _ _ (omega arith)))  -- slice-aggregate-last-at
+    (λ c κs. search needs)  -- last-at-requires-2
+    (λ c. rw (c .last-at2 .ensures .1, c .before .before .before-slash .ensures .1, c .before .before .before .last-at .ensures .1)))  -- returns

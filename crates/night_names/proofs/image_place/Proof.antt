@@ -11,11 +11,11 @@ pub image-place-spec : {M : Type 1} → statement M
 image-place-spec =
     tie.close
     (tie.spec
-    (λ c κs. search needs) -- last-at-requires
-    (λ c κs. search needs) -- last-at-requires-2
-    (λ c κs. search needs) -- before-slash-requires
-    (λ c. search needs) -- slice-aggregate-joined
-    (λ c. let g = c .before .before .before .last-at2 .ensures .0 .0 in let h = c .before .before .before-slash .ensures .0 in sym (length-take-le _ _ (omega arith))) -- slice-aggregate-joined-2
-    (λ c κs. search needs) -- joined-requires
-    (λ c. search needs) -- same-length
-    (λ c. (c .before .before .joined .ensures .0, c .before .before .joined .ensures .1 ∙ image-is _ _ _ (c .before .before .before .before .before .before .before .before .last-at .ensures .1) (c .before .before .before .before .before .before .before .last-at2 .ensures .1) (c .before .before .before .before .before .before .before-slash .ensures .1)))) -- returns
+    (λ c κs. search needs)  -- last-at-requires
+    (λ c κs. search needs)  -- last-at-requires-2
+    (λ c κs. search needs)  -- before-slash-requires
+    (λ c. search needs)  -- slice-aggregate-joined
+    (λ c. let g = c .before .before .before .last-at2 .ensures .0 .0 in let h = c .before .before .before-slash .ensures .0 in sym (length-take-le _ _ (omega arith)))  -- slice-aggregate-joined-2
+    (λ c κs. search needs)  -- joined-requires
+    (λ c. search needs)  -- same-length
+    (λ c. (c .before .before .joined .ensures .0, c .before .before .joined .ensures .1 ∙ image-is _ _ _ (c .before .before .before .before .before .before .before .before .last-at .ensures .1) (c .before .before .before .before .before .before .before .last-at2 .ensures .1) (c .before .before .before .before .before .before .before-slash .ensures .1))))  -- returns

@@ -9,9 +9,9 @@ unfolding isBeside
 is-beside-spec =
     tie.close
     (tie.spec
-    (λ c κs. search needs) -- last-at-requires
-    (λ c κs. search needs) -- last-at-requires-2
-    (λ c. search needs) -- slice-aggregate-same
-    (λ c. search needs) -- slice-aggregate-same-2
-    (λ c κs. search needs) -- same-requires
-    (λ c. rw (← c .before .before .before .before .last-at .ensures .1, ← c .before .before .before .last-at2 .ensures .1) (c .same .ensures))) -- returns
+    (λ c κs. search needs)  -- last-at-requires
+    (λ c κs. search needs)  -- last-at-requires-2
+    (λ c. search needs)  -- slice-aggregate-same
+    (λ c. search needs)  -- slice-aggregate-same-2
+    (λ c κs. search needs)  -- same-requires
+    (λ c. rw (← c .before .before .before .before .last-at .ensures .1, ← c .before .before .before .last-at2 .ensures .1) (c .same .ensures)))  -- returns

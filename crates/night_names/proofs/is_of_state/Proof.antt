@@ -9,13 +9,13 @@ unfolding isOfState
 is-of-state-spec =
     tie.close
     (tie.spec
-    (λ c κs. search needs) -- same-requires
-    (λ c. search needs) -- slice-aggregate-is-with
-    (λ c κs. search needs) -- is-with-requires
-    (λ c. search needs) -- slice-aggregate-is-with-2
-    (λ c κs. search needs) -- is-with-requires-2
-    (λ c. search needs) -- slice-aggregate-is-with-3
-    (λ c κs. search needs) -- is-with-requires-3
-    (λ c. search needs) -- slice-aggregate-is-with-4
-    (λ c κs. search needs) -- is-with-requires-4
-    (λ c. rw (c .before .before .before .before .before .before .before .before .same .ensures, c .before .before .before .before .before .before .is-with .ensures, c .before .before .before .before .is-with2 .ensures, c .before .before .is-with3 .ensures, c .is-with4 .ensures))) -- returns
+    (λ c κs. search needs)  -- same-requires
+    (λ c. search needs)  -- slice-aggregate-is-with
+    (λ c κs. search needs)  -- is-with-requires
+    (λ c. search needs)  -- slice-aggregate-is-with-2
+    (λ c κs. search needs)  -- is-with-requires-2
+    (λ c. search needs)  -- slice-aggregate-is-with-3
+    (λ c κs. search needs)  -- is-with-requires-3
+    (λ c. search needs)  -- slice-aggregate-is-with-4
+    (λ c κs. search needs)  -- is-with-requires-4
+    (λ c. rw (c .before .before .before .before .before .before .before .before .same .ensures, c .before .before .before .before .before .before .is-with .ensures, c .before .before .before .before .is-with2 .ensures, c .before .before .is-with3 .ensures, c .is-with4 .ensures)))  -- returns

@@ -9,6 +9,6 @@ unfolding isPlace
 is-place-spec =
     tie.close
     (tie.spec
-    (λ c κs. search needs) -- last-at-requires
-    (λ c. search needs) -- sub-result
-    (λ c. rw (c .last-at .ensures .1))) -- returns
+    (λ c κs. search needs)  -- last-at-requires
+    (λ c. search needs)  -- sub-result
+    (λ c. rw (c .last-at .ensures .1)))  -- returns

@@ -11,10 +11,10 @@ unfolding isWith
 is-with-spec =
     tie.close
     (tie.spec
-    (λ c κs. search needs) -- buffer-requires
-    (λ c. search needs) -- slice-aggregate-joined
-    (λ c κs. search needs) -- joined-requires
-    (λ c. search needs) -- array-share-prefix-buffer
-    (λ c. search needs) -- slice-aggregate-same
-    (λ c κs. search needs) -- same-requires
-    (λ c. c .same .ensures ∙ ap (sameOf (c .before .before .before .before .before .before .before .before .before .args .name .now)) (c .before .before .before .joined .ensures .1 ∙ ap (joinedOf (c .before .before .before .before .before .before .before .before .before .args .state .now) (c .before .before .before .before .before .before .before .before .before .args .ending .now)) (sym (c .before .before .before .before .before .buffer .ensures))))) -- returns
+    (λ c κs. search needs)  -- buffer-requires
+    (λ c. search needs)  -- slice-aggregate-joined
+    (λ c κs. search needs)  -- joined-requires
+    (λ c. search needs)  -- array-share-prefix-buffer
+    (λ c. search needs)  -- slice-aggregate-same
+    (λ c κs. search needs)  -- same-requires
+    (λ c. c .same .ensures ∙ ap (sameOf (c .before .before .before .before .before .before .before .before .before .args .name .now)) (c .before .before .before .joined .ensures .1 ∙ ap (joinedOf (c .before .before .before .before .before .before .before .before .before .args .state .now) (c .before .before .before .before .before .before .before .before .before .args .ending .now)) (sym (c .before .before .before .before .before .buffer .ensures)))))  -- returns

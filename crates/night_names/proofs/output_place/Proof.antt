@@ -9,12 +9,12 @@ pub output-place-spec : {M : Type 1} → statement M
 output-place-spec =
     tie.close
     (tie.spec
-    (λ c κs. search needs) -- last-at-requires
-    (λ c κs. search needs) -- last-at-requires-2
-    (λ c. search needs) -- slice-aggregate-joined
-    (λ c. search needs) -- sub-joined
-    (λ c. search needs) -- part-joined-start
-    (λ c. search needs) -- part-joined-end
-    (λ c κs. search needs) -- joined-requires
-    (λ c. search needs) -- same-length
-    (λ c. (c .before .before .joined .ensures .0, c .before .before .joined .ensures .1 ∙ output-is _ _ _ (c .before .before .before .before .before .before .before .last-at .ensures .1) (c .before .before .before .before .before .before .last-at2 .ensures .1)))) -- returns
+    (λ c κs. search needs)  -- last-at-requires
+    (λ c κs. search needs)  -- last-at-requires-2
+    (λ c. search needs)  -- slice-aggregate-joined
+    (λ c. search needs)  -- sub-joined
+    (λ c. search needs)  -- part-joined-start
+    (λ c. search needs)  -- part-joined-end
+    (λ c κs. search needs)  -- joined-requires
+    (λ c. search needs)  -- same-length
+    (λ c. (c .before .before .joined .ensures .0, c .before .before .joined .ensures .1 ∙ output-is _ _ _ (c .before .before .before .before .before .before .before .last-at .ensures .1) (c .before .before .before .before .before .before .last-at2 .ensures .1))))  -- returns

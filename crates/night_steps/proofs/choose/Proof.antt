@@ -6,5 +6,5 @@ pub choose-spec : {M : Type 1} → statement M
 choose-spec =
     tie.close
     (tie.spec
-    (λ c. rw (c .if1 .taken)) -- returns
-    (λ c. rw (c .if1 .left))) -- returns-2
+    (λ c. rw (c .if1 .taken))  -- returns
+    (λ c. rw (c .if1 .left)))  -- returns-2
