@@ -9,6 +9,7 @@ mapfile -t words < <(sh "$root/tools/launch.sh" --words)
 room=$(mktemp -d) && trap 'rm -rf "$room"' EXIT
 cd "$room" && mkdir sets d || exit 2
 files="image state state.rest output state.names"
+exec 2>/dev/null  # the shell tells of each one that is killed
 
 # a ROM that counts in $80 and sends the count for ever; an idle line every 4,000 cycles
 python3 - <<'PY'
@@ -20,7 +21,7 @@ open("evening", "wb").write(b"".join(b"\x06\0\x06\0" + (4000 * k).to_bytes(4, "l
 PY
 
 night() { "${words[@]}" "$root/target/bin/night" "$@"; }             # the program, in the folder d
-faulty() { strace -o ../log "$@" "${words[@]}" "$root/target/bin/night" "${call[@]}" >../out 2>/dev/null; }
+faulty() { strace -o ../log "$@" "${words[@]}" "$root/target/bin/night" "${call[@]}" >../out; }
 keep() { rm -rf "sets/$1"; cp -r d "sets/$1"; }
 back() { rm -rf d; cp -r "sets/$1" d; }
 said() { grep -q "$1" ../out; }

@@ -3,3 +3,4 @@ pub mod Law
 pub mod Ends
 pub mod Commit
 pub mod Holes
+pub mod Beside
