@@ -3,9 +3,9 @@
 use mathlib.Core.Path.{_≡_, refl, sym, ap, subst, _∙_}
 use mathlib.Core.Bool.{Bool, true, false, _&&_, cond}
 use mathlib.Core.List.{List, [], _∷_}
-use Prim.Native.Nat.{ℕ, zero, suc}
+use Prim.Native.Nat.{ℕ, suc}
 use lib.Dec.{T, eqb}
-use Rattle.night_folders.specs.Folders.{Step, fresh, made, written, saved, moved, down, Phase, making, sealed, decided, placing, clearing, undoing, File, Home, World}
+use Rattle.night_folders.specs.Folders.{fresh, made, written, saved, moved, down, making, sealed, decided, placing, clearing, undoing, File, Home, World}
 use Rattle.night_folders.specs.Folders.{Event, create, write, fsync-file, fsync-night, commit, call, fsync-commit, put, fsync-place, rmdir-done, fsync-last}
 use Rattle.night_folders.specs.Folders.{fail, unlink, rmdir-night, kill, also-call, also-fsync, also-put, also-place, also-rmdir, also-last, also-kill, cut}
 use Rattle.night_folders.specs.Folders.{land-night, land-done, land-spot, land-text, land-half, Act, _at_}

@@ -3,14 +3,16 @@
 use mathlib.Core.Path.{_≡_, refl}
 use mathlib.Core.Bool.{Bool, true, false, not, _&&_, _||_, cond}
 use mathlib.Core.List.{List, [], _∷_}
-use Prim.Native.Nat.{ℕ, zero, suc}
+use Prim.Native.Nat.{ℕ}
 use lib.Dec.{T}
-use Rattle.night_folders.specs.Folders.{Spot, nowhere, work, place, Text, part, whole, Help, off, Phase, idle, making, sealed, decided, placing, clearing, undoing, File, Home, World, Event, create, write, fsync-file, fsync-night, commit, call, fsync-commit, put, fsync-place, rmdir-done, fsync-last, fail, unlink, rmdir-night, kill, also-call, also-fsync, also-put, also-place, also-rmdir, also-last, also-kill, cut, land-night, land-done, land-spot, land-text, land-half, Act, _at_}
+use Rattle.night_folders.specs.Folders.{Spot, nowhere, work, place, Text, part, whole, off, idle, undoing, File, Home, World, Event}
+use Rattle.night_folders.specs.Folders.{create, write, fsync-file, fsync-night, commit, call, fsync-commit, put, fsync-place, rmdir-done, fsync-last, fail, unlink, rmdir-night, kill}
+use Rattle.night_folders.specs.Folders.{also-call, also-fsync, also-put, also-place, also-rmdir, also-last, also-kill, cut, land-night, land-done, land-spot, land-text, land-half, Act, _at_}
 use Rattle.night_folders.specs.Rules.{isHelp, isPhase, may, asks}
-use Rattle.night_folders.specs.Effects.{turn, does, tests, changes, allowed, forced, step-of, run, newcomers, start, Shown, old, new, torn, showing, Shows, All, outcome, none}
+use Rattle.night_folders.specs.Effects.{turn, tests, allowed, forced, step-of, run, start, Shown, old, new, torn, showing, Shows, All, outcome}
 use Rattle.night_folders.proofs.Every.{first, second, both, implies, meet, eachHome, at-home, eachBool, at-bool, eachSpot, at-spot, eachText, at-text}
 use Rattle.night_folders.proofs.Ends.{start-sized, run-sized, cut-then-call, kill-then-call, cut-ends, kill-ends}
-use Rattle.night_folders.proofs.Law.{Good, sound, fits, lies, lies-at, allFit, run-keeps, step-keeps, start-good, isSpot, isWhole, tells}
+use Rattle.night_folders.proofs.Law.{sound, fits, lies, lies-at, allFit, run-keeps, start-good, isSpot, isWhole, tells}
 
 shows-old : (b : Spot) (d : Text) → T (not (isSpot place b)) → showing b d ≡ old
 shows-old nowhere d t = refl

@@ -4,9 +4,10 @@ use mathlib.Core.Bool.{Bool, true, false, not, _&&_, _||_, cond}
 use mathlib.Core.List.{List, [], _∷_}
 use Prim.Native.Nat.{ℕ, zero, suc}
 use lib.Dec.{T}
-use Rattle.night_folders.specs.Folders.{Step, saved, moved, down, Phase, idle, making, sealed, decided, placing, clearing, undoing, Help, off, File, Home, World, Event, call, fsync-commit, put, fsync-place, rmdir-done, fsync-last, kill, also-kill, cut, Act, _at_}
+use Rattle.night_folders.specs.Folders.{Step, saved, moved, idle, placing, clearing, Help, off, File, Home, World, Event, call, fsync-commit}
+use Rattle.night_folders.specs.Folders.{put, fsync-place, rmdir-done, fsync-last, kill, also-kill, cut, Act, _at_}
 use Rattle.night_folders.specs.Rules.{isStep, may, asks}
-use Rattle.night_folders.specs.Effects.{homeOf, all, turn, does, tests, changes, allowed, forced, step-of, run, newcomers, start, one, none, eachFrom, forward, recovery}
+use Rattle.night_folders.specs.Effects.{homeOf, all, does, tests, changes, allowed, forced, step-of, run, newcomers, one, none, eachFrom, recovery}
 use Rattle.night_folders.proofs.Every.{first, second, both}
 
 -- n files stay n files

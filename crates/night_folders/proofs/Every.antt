@@ -1,7 +1,8 @@
 -- A test at every value of each type of the model, computed; and what it says of one value. Assumes nothing.
 use mathlib.Core.Bool.{Bool, true, false, _&&_}
 use lib.Dec.{T}
-use Rattle.night_folders.specs.Folders.{Spot, nowhere, work, place, Text, part, whole, Step, fresh, made, written, saved, moved, down, Phase, idle, making, sealed, decided, placing, clearing, undoing, Help, off, looking, putting, leaving, Got, todo, tried, sure, File, Home}
+use Rattle.night_folders.specs.Folders.{Spot, nowhere, work, place, Text, part, whole, Step, fresh, made, written, saved, moved, down, Phase, idle, making, sealed, decided, placing, clearing}
+use Rattle.night_folders.specs.Folders.{undoing, Help, off, looking, putting, leaving, Got, todo, tried, sure, File, Home}
 use Rattle.night_folders.specs.Effects.{homeOf, fileOf}
 
 pub first : (a b : Bool) → T (a && b) → T a

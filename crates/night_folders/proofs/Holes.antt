@@ -1,10 +1,9 @@
 -- What goes wrong where a rule is left out: two files, the operations done regardless of the rules, mostly with a power cut, then a
 -- whole recovery. What the two places show at the end, computed. Assumes nothing.
 use mathlib.Core.Path.{_≡_, refl}
-use mathlib.Core.Bool.{Bool, true, false}
 use mathlib.Core.List.{List, [], _∷_}
-use Prim.Native.Nat.{ℕ, zero, suc}
-use Rattle.night_folders.specs.Folders.{Spot, Text, File, World, Event, create, write, fsync-file, fsync-night, commit, call, fsync-commit, put, fsync-place, rmdir-done, fsync-last, fail, unlink, rmdir-night, kill, also-put, cut, land-done, land-spot, land-half, Act, _at_}
+use Rattle.night_folders.specs.Folders.{File, World, create, write, fsync-file, fsync-night, commit, call, fsync-commit, put, fsync-place, rmdir-done, fsync-last, fail}
+use Rattle.night_folders.specs.Folders.{unlink, kill, also-put, cut, land-done, land-spot, land-half, Act, _at_}
 use Rattle.night_folders.specs.Effects.{forced, run, start, Shown, old, new, torn, showing, one, none, writesFrom, recovery}
 
 -- the operations, whether the rules allow them or not

@@ -1,10 +1,12 @@
 -- What holds at all times, and that every event keeps it: computed over every state of the names and of one file. Assumes nothing.
-use mathlib.Core.Path.{_≡_, refl}
 use mathlib.Core.Bool.{Bool, true, false, not, _&&_, _||_, cond}
 use mathlib.Core.List.{List, [], _∷_}
 use Prim.Native.Nat.{ℕ, zero, suc}
 use lib.Dec.{T, eqb}
-use Rattle.night_folders.specs.Folders.{Spot, nowhere, work, place, Text, part, whole, Step, fresh, made, written, saved, moved, down, Phase, idle, making, sealed, decided, placing, clearing, undoing, Help, off, looking, putting, leaving, Got, todo, tried, sure, File, Home, World, Event, create, write, fsync-file, fsync-night, commit, call, fsync-commit, put, fsync-place, rmdir-done, fsync-last, fail, unlink, rmdir-night, kill, also-call, also-fsync, also-put, also-place, also-rmdir, also-last, also-kill, cut, land-night, land-done, land-spot, land-text, land-half, Act, _at_}
+use Rattle.night_folders.specs.Folders.{Spot, nowhere, work, place, Text, part, whole, Step, fresh, made, written, saved, moved, down, idle, making, sealed, decided, placing, clearing}
+use Rattle.night_folders.specs.Folders.{undoing, off, looking, putting, leaving, Got, todo, tried, sure, File, Home, World, Event, create, write, fsync-file, fsync-night, commit, call}
+use Rattle.night_folders.specs.Folders.{fsync-commit, put, fsync-place, rmdir-done, fsync-last, fail, unlink, rmdir-night, kill, also-call, also-fsync, also-put, also-place, also-rmdir}
+use Rattle.night_folders.specs.Folders.{also-last, also-kill, cut, land-night, land-done, land-spot, land-text, land-half, Act, _at_}
 use Rattle.night_folders.specs.Rules.{isHelp, isGot, isPhase, isStep, may, asks}
 use Rattle.night_folders.specs.Effects.{turn, does, tests, changes, allowed, forced, step-of, run, newcomers, start}
 use Rattle.night_folders.proofs.Every.{first, second, both, implies, meet, eachBool, at-bool, eachFile, at-file, eachHome, at-home}

@@ -7,7 +7,12 @@ use mathlib.Core.Bool.{Bool, true, false, _&&_, _||_, cond}
 use mathlib.Core.List.{List, [], _∷_}
 use Prim.Native.Nat.{ℕ, zero, suc}
 use mathlib.Core.Path.{_≡_}
-use Rattle.night_folders.specs.Folders.{Spot, nowhere, work, place, Text, part, whole, Step, fresh, made, written, saved, moved, down, Phase, idle, making, sealed, decided, placing, clearing, undoing, Help, off, looking, putting, leaving, Got, todo, tried, sure, File, Home, World, Event, create, write, fsync-file, fsync-night, commit, call, fsync-commit, put, fsync-place, rmdir-done, fsync-last, fail, unlink, rmdir-night, kill, also-call, also-fsync, also-put, also-place, also-rmdir, also-last, also-kill, cut, land-night, land-done, land-spot, land-text, land-half, Act, _at_}
+use Rattle.night_folders.specs.Folders.{Spot, nowhere, work, place, Text, part, whole, Step, fresh, made, written, saved, moved, down, Phase, idle}
+use Rattle.night_folders.specs.Folders.{making, sealed, decided, placing, clearing, undoing, Help, off, looking, putting, leaving, Got, todo, tried}
+use Rattle.night_folders.specs.Folders.{sure, File, Home, World, Event, create, write, fsync-file, fsync-night, commit, call, fsync-commit, put}
+use Rattle.night_folders.specs.Folders.{fsync-place, rmdir-done, fsync-last, fail, unlink, rmdir-night, kill, also-call, also-fsync, also-put}
+use Rattle.night_folders.specs.Folders.{also-place, also-rmdir, also-last, also-kill, cut, land-night, land-done, land-spot, land-text, land-half, Act}
+use Rattle.night_folders.specs.Folders.{_at_}
 use Rattle.night_folders.specs.Rules.{may, asks}
 
 abbrev pub homeOf : Phase → Help → Bool → Bool → Bool → Bool → Bool → Home

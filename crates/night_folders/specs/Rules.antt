@@ -2,7 +2,11 @@
 use mathlib.Core.Bool.{Bool, true, false, _&&_}
 use Prim.Native.Nat.{ℕ}
 use lib.Dec.{eqb}
-use Rattle.night_folders.specs.Folders.{Step, fresh, made, written, saved, moved, down, Phase, idle, making, sealed, decided, placing, clearing, undoing, Help, off, looking, putting, leaving, Got, todo, tried, sure, File, Home, Event, create, write, fsync-file, fsync-night, commit, call, fsync-commit, put, fsync-place, rmdir-done, fsync-last, fail, unlink, rmdir-night, kill, also-call, also-fsync, also-put, also-place, also-rmdir, also-last, also-kill, cut, land-night, land-done, land-spot, land-text, land-half}
+use Rattle.night_folders.specs.Folders.{Step, fresh, made, written, saved, moved, down, Phase, idle, making, sealed, decided, placing, clearing}
+use Rattle.night_folders.specs.Folders.{undoing, Help, off, looking, putting, leaving, Got, todo, tried, sure, File, Home, Event, create, write}
+use Rattle.night_folders.specs.Folders.{fsync-file, fsync-night, commit, call, fsync-commit, put, fsync-place, rmdir-done, fsync-last, fail, unlink}
+use Rattle.night_folders.specs.Folders.{rmdir-night, kill, also-call, also-fsync, also-put, also-place, also-rmdir, also-last, also-kill, cut}
+use Rattle.night_folders.specs.Folders.{land-night, land-done, land-spot, land-text, land-half}
 
 abbrev pub phaseNo : Phase → ℕ
 phaseNo idle = 0

@@ -5,7 +5,8 @@ ghost use mathlib.Core.Path.{_≡_};
 ghost use lib.ListN.{length, take};
 ghost use Rattle.io.specs.Counts.{Counts};
 ghost use Rattle.night_arguments.specs.Arguments.{joinedOf};
-ghost use Rattle.night_names.specs.Names.{sameOf, beginsAt, lastAt, isPlace, isBeside, isWith, isOfState, isRead, areNames, namesOf, areRecorded, imagePlace, outputPlace};
+ghost use Rattle.night_names.specs.Names.{sameOf, beginsAt, lastAt, isPlace, isBeside, isWith, isOfState, isRead, areNames};
+ghost use Rattle.night_names.specs.Names.{namesOf, areRecorded, imagePlace, outputPlace};
 
 // Whether two texts are the same.
 pub fn same(a: &[u8], b: &[u8]) -> bool

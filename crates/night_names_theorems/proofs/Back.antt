@@ -1,19 +1,18 @@
 -- By the names that a night commits along, a recovery that has the same STATE folder finds that night's IMAGE and OUTPUT. Assumes nothing.
 use Prim.Native.Nat.{ℕ, _+_, _-_, _≤_, _<_}
 use native.Mathlib.Omega.{arith}
-use mathlib.Core.Bool.{Bool, true, false, _&&_}
+use mathlib.Core.Bool.{true, _&&_}
 use mathlib.Core.List.{List, [], _∷_, _++_}
-use mathlib.Core.Path.{_≡_, refl, sym, ap, _∙_}
-use lib.Dec.{eqb, ltb, leb}
-use lib.ListN.{length, take, drop, length-append, length-drop, take-append-drop}
+use mathlib.Core.Path.{_≡_, sym, ap, _∙_}
+use lib.Dec.{ltb, leb}
+use lib.ListN.{length, length-append, length-drop, take-append-drop}
 use lib.Seq.{length-take-le}
-use borrow.Author.Tests.{le-ltb, lt-ltb, eq-eqb, ltb-true, leb-true}
+use borrow.Author.Tests.{le-ltb, lt-ltb, ltb-true, leb-true}
 use Rattle.laws.proofs.Bools.{both}
 use Rattle.laws.proofs.Conds.{passes}
-use Rattle.printing.specs.Printing.{ascii}
 use Rattle.night_arguments.specs.Arguments.{joinedOf}
 use Rattle.night_names.specs.Names.{lastAt, folderOf, lastOf, firstOf, isPlace, isBeside, namesOf, areRecorded, imagePlace, outputPlace}
-use Rattle.night_names_theorems.proofs.Parts.{NoSlash, same-sound, last-plain, last-within, last-zero, glued, last-glued, last-of-glued, first-of-glued}
+use Rattle.night_names_theorems.proofs.Parts.{same-sound, last-plain, last-within, last-zero, glued, last-glued, last-of-glued, first-of-glued}
 
 joins : (a b : List ℕ) (room : ℕ) → length a + length b ≤ room → joinedOf a b room ≡ a ++ b
 unfolding joinedOf

@@ -1,14 +1,14 @@
 -- How many operations are ahead: so many files to make, and from any operation so many until one that waits. Assumes nothing.
-use Prim.Native.Nat.{ℕ, _+_, _-_, _≤_, _<_}
+use Prim.Native.Nat.{ℕ, _+_, _-_, _<_}
 use native.Mathlib.Omega.{arith}
 use mathlib.Core.Bool.{Bool, true, false, true≢false}
 use mathlib.Core.Path.{_≡_, refl, sym}
-use lib.Dec.{T, ltb}
+use lib.Dec.{ltb}
 use borrow.Author.Tests.{ltb-true}
 use Rattle.night_steps.specs.declared.Op.{Op}
 use Rattle.night_steps.specs.declared.Op.the-variants.{Find, ReadNames, Take, Blocked, FindAgain, Settle, GiveBack, Run, Make, SyncNight, Unlink, RemoveNight}
 use Rattle.night_steps.specs.declared.Op.the-variants.{Commit, SyncCommit, Put, SyncPlaces, RemoveDone, SyncLast, Placed, Refused, Stopped}
-use Rattle.night_steps.specs.Steps.{choice, afterMake, afterPut, afterUnlink, nextOf, waitsOf, isMake}
+use Rattle.night_steps.specs.Steps.{choice, nextOf, waitsOf, isMake}
 
 abbrev pub ahead : Op → ℕ
 ahead Find = 5

@@ -7,7 +7,7 @@ use lib.Dec.{T, ltb}
 use Rattle.night_steps.specs.declared.Op.{Op}
 use Rattle.night_steps.specs.declared.Op.the-variants.{Find, ReadNames, Take, Blocked, FindAgain, Settle, GiveBack, Run, Make, SyncNight, Unlink, RemoveNight}
 use Rattle.night_steps.specs.declared.Op.the-variants.{Commit, SyncCommit, Put, SyncPlaces, RemoveDone, SyncLast, Placed, Refused, Stopped}
-use Rattle.night_steps.specs.Steps.{choice, afterMake, afterPut, afterUnlink, nextOf, events, walk, end}
+use Rattle.night_steps.specs.Steps.{choice, afterMake, afterPut, nextOf, events, walk, end}
 use Rattle.night_folders.specs.Folders.{Act, _at_, File, Help, World, idle}
 use Rattle.night_folders.specs.Effects.{homeOf, start, nightly, recovery, lawful, run, step-of, allowed}
 use Rattle.night_folders.proofs.Beside.{inner, inners, outers, lawfulBeside, allowed-beside}

@@ -4,9 +4,11 @@ use mathlib.Core.List.{List, [], _∷_, _++_}
 use Prim.Native.Nat.{ℕ, zero, suc, _+_}
 use lib.Dec.{ltb}
 use Rattle.night_steps.specs.declared.Op.{Op}
-use Rattle.night_steps.specs.declared.Op.the-variants.{Find, ReadNames, Take, Blocked, FindAgain, Settle, GiveBack, Run, Make, SyncNight, Unlink, RemoveNight}
+use Rattle.night_steps.specs.declared.Op.the-variants.{Find, ReadNames, Take, Blocked, FindAgain, Settle, GiveBack, Run, Make, SyncNight, Unlink}
+use Rattle.night_steps.specs.declared.Op.the-variants.{RemoveNight}
 use Rattle.night_steps.specs.declared.Op.the-variants.{Commit, SyncCommit, Put, SyncPlaces, RemoveDone, SyncLast, Placed, Refused, Stopped}
-use Rattle.night_folders.specs.Folders.{Act, _at_, create, write, fsync-file, fsync-night, commit, call, fsync-commit, put, fsync-place, rmdir-done, fsync-last}
+use Rattle.night_folders.specs.Folders.{Act, _at_, create, write, fsync-file, fsync-night, commit, call, fsync-commit, put, fsync-place, rmdir-done}
+use Rattle.night_folders.specs.Folders.{fsync-last}
 use Rattle.night_folders.specs.Folders.{fail, unlink, rmdir-night, kill}
 use Rattle.night_folders.specs.Effects.{one, none, all}
 

@@ -13,7 +13,10 @@ abbrev μ-loop : tie.MeasureT-loop
 μ-loop own state names op₀ op = ahead op
 
 loop-less : tie.Need-loop-less Inv-loop μ-loop
-loop-less c = rw (c .next .ensures) (falls (c .before .before .before .before .loop .op) (c .before .carry-out .result) (c .before .before .before .before .before .before .before .args .own) (sym (c .before .before .before .waits .ensures) ∙ not-true _ (c .before .before .if1 .taken)))
+loop-less c =
+    let i = c .before .before .before in
+    rw (c .next .ensures) (falls (i .before .loop .op) (c .before .carry-out .result) (i .before .before .before .before .args .own)
+    (sym (i .waits .ensures) ∙ not-true _ (c .before .before .if1 .taken)))
 
 returns : tie.Need-returns Inv-loop μ-loop
 returns c = sym (c .before .waits .ensures) ∙ not-false _ (c .if1 .left)

@@ -13,7 +13,9 @@ abbrev μ-loop : tie.MeasureT-loop
 μ-loop ran state names image machine rest output op₀ op = toMake op
 
 loop-less : tie.Need-loop-less Inv-loop μ-loop
-loop-less c = rw (c .next2 .ensures) (makes-fall (c .before .before .before .before .loop .op) (c .before .make-file .result) true (sym (c .before .before .before .is-make .ensures) ∙ c .before .before .if1 .taken))
+loop-less c =
+    let i = c .before .before .before in
+    rw (c .next2 .ensures) (makes-fall (i .before .loop .op) (c .before .make-file .result) true (sym (i .is-make .ensures) ∙ c .before .before .if1 .taken))
 
 pub finish-spec : {M : Type 1} → statement M
 finish-spec =

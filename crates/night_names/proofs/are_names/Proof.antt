@@ -18,4 +18,17 @@ are-names-spec =
     (λ c κs. search needs)  -- is-of-state-requires-2
     (λ c κs. search needs)  -- same-requires
     (λ c κs. search needs)  -- is-read-requires
-    (λ c. rw (c .before .before .before .before .before .before .before .before .is-place .ensures, c .before .before .before .before .before .before .before .is-place2 .ensures, c .before .before .before .before .before .before .is-place3 .ensures, c .before .before .before .before .before .is-beside .ensures, c .before .before .before .before .is-beside2 .ensures, c .before .before .before .is-of-state .ensures, c .before .before .is-of-state2 .ensures, c .before .same .ensures, c .is-read .ensures)))  -- returns
+    (λ c.
+    let p = c .before .before .before in
+    let q = p .before .before .before in
+    rw (
+      q .before .before .is-place .ensures,
+      q .before .is-place2 .ensures,
+      q .is-place3 .ensures,
+      p .before .before .is-beside .ensures,
+      p .before .is-beside2 .ensures,
+      p .is-of-state .ensures,
+      c .before .before .is-of-state2 .ensures,
+      c .before .same .ensures,
+      c .is-read .ensures,
+    )))  -- returns

@@ -18,4 +18,10 @@ image-place-spec =
     (λ c. let g = c .before .before .before .last-at2 .ensures .0 .0 in let h = c .before .before .before-slash .ensures .0 in sym (length-take-le _ _ (omega arith)))  -- slice-aggregate-joined-2
     (λ c κs. search needs)  -- joined-requires
     (λ c. search needs)  -- same-length
-    (λ c. (c .before .before .joined .ensures .0, c .before .before .joined .ensures .1 ∙ image-is _ _ _ (c .before .before .before .before .before .before .before .before .last-at .ensures .1) (c .before .before .before .before .before .before .before .last-at2 .ensures .1) (c .before .before .before .before .before .before .before-slash .ensures .1))))  -- returns
+    (λ c.
+    let j = c .before .before in
+    let b = j .before .before .before .before in (
+      j .joined .ensures .0,
+      j .joined .ensures .1
+          ∙ image-is _ _ _ (b .before .before .last-at .ensures .1) (b .before .last-at2 .ensures .1) (b .before-slash .ensures .1),
+    )))  -- returns

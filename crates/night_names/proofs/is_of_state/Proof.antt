@@ -18,4 +18,8 @@ is-of-state-spec =
     (λ c κs. search needs)  -- is-with-requires-3
     (λ c. search needs)  -- slice-aggregate-is-with-4
     (λ c κs. search needs)  -- is-with-requires-4
-    (λ c. rw (c .before .before .before .before .before .before .before .before .same .ensures, c .before .before .before .before .before .before .is-with .ensures, c .before .before .before .before .is-with2 .ensures, c .before .before .is-with3 .ensures, c .is-with4 .ensures)))  -- returns
+    (λ c.
+    let p = c .before .before in
+    let q = p .before .before in
+    let r = q .before .before in
+    rw (r .before .before .same .ensures, r .is-with .ensures, q .is-with2 .ensures, p .is-with3 .ensures, c .is-with4 .ensures)))  -- returns

@@ -17,4 +17,8 @@ is-with-spec =
     (λ c. search needs)  -- array-share-prefix-buffer
     (λ c. search needs)  -- slice-aggregate-same
     (λ c κs. search needs)  -- same-requires
-    (λ c. c .same .ensures ∙ ap (sameOf (c .before .before .before .before .before .before .before .before .before .args .name .now)) (c .before .before .before .joined .ensures .1 ∙ ap (joinedOf (c .before .before .before .before .before .before .before .before .before .args .state .now) (c .before .before .before .before .before .before .before .before .before .args .ending .now)) (sym (c .before .before .before .before .before .buffer .ensures)))))  -- returns
+    (λ c.
+    let j = c .before .before .before in
+    let a = j .before .before .before .before .before .before .args in
+    c .same .ensures
+    ∙ ap (sameOf (a .name .now)) (j .joined .ensures .1 ∙ ap (joinedOf (a .state .now) (a .ending .now)) (sym (j .before .before .buffer .ensures)))))  -- returns

@@ -1,11 +1,11 @@
 -- `night_names::last_at` meets its contract: each turn looks at one byte more. Assumes nothing.
 use Prim.Native.Nat.{ℕ, _+_, _-_, _≤_}
 use native.Mathlib.Omega.{arith}
-use mathlib.Core.Path.{_≡_, sym, ap, subst, _∙_}
+use mathlib.Core.Path.{_≡_, sym, ap, _∙_}
 use lib.ListN.{length, drop, getD}
 use lib.Seq.{length-take-le}
 use borrow.Author.Needs.{needs}
-use Rattle.night_names.specs.Names.{lastAt, lastFrom, beginsAt}
+use Rattle.night_names.specs.Names.{lastAt, lastFrom}
 use Rattle.night_names.proofs.Laws.{last-start, last-next, last-end, begins-within}
 use Rattle.night_names.proofs.last_at.Statement.{statement}
 use Rattle.night_names.proofs.last_at.Tie as tie

@@ -17,4 +17,7 @@ output-place-spec =
     (λ c. search needs)  -- part-joined-end
     (λ c κs. search needs)  -- joined-requires
     (λ c. search needs)  -- same-length
-    (λ c. (c .before .before .joined .ensures .0, c .before .before .joined .ensures .1 ∙ output-is _ _ _ (c .before .before .before .before .before .before .before .last-at .ensures .1) (c .before .before .before .before .before .before .last-at2 .ensures .1))))  -- returns
+    (λ c.
+    let j = c .before .before in
+    let b = j .before .before .before .before in
+    (j .joined .ensures .0, j .joined .ensures .1 ∙ output-is _ _ _ (b .before .last-at .ensures .1) (b .last-at2 .ensures .1))))  -- returns

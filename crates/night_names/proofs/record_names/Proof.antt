@@ -25,4 +25,11 @@ record-names-spec =
     (λ c. search needs)  -- part-joined-end-2
     (λ c κs. search needs)  -- joined-requires-2
     (λ c. search needs)  -- same-length
-    (λ c. (c .before .before .joined2 .ensures .0, c .before .before .joined2 .ensures .1 ∙ names-is _ _ _ (c .before .before .before .before .before .before .before .before .before .before .before .before .before .last-at .ensures .1) (c .before .before .before .before .before .before .before .before .before .before .before .before .last-at2 .ensures .1) (c .before .before .before .before .before .before .before .before .before .before .before .buffer .ensures) (c .before .before .before .before .before .before .before .joined .ensures .1))))  -- returns
+    (λ c.
+    let j = c .before .before in
+    let i = j .before .before .before .before .before in
+    let b = i .before .before .before .before in (
+      j .joined2 .ensures .0,
+      j .joined2 .ensures .1
+          ∙ names-is _ _ _ (b .before .before .last-at .ensures .1) (b .before .last-at2 .ensures .1) (b .buffer .ensures) (i .joined .ensures .1),
+    )))  -- returns

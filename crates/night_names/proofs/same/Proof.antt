@@ -1,9 +1,8 @@
 -- `night_names::same` meets its contract: each turn compares one byte more. Assumes nothing.
-use Prim.Native.Nat.{ℕ, _+_, _-_, _≤_}
+use Prim.Native.Nat.{_-_, _≤_}
 use native.Mathlib.Omega.{arith}
 use mathlib.Core.Path.{_≡_, refl, sym, _∙_}
-use lib.ListN.{length, drop, getD}
-use borrow.Author.Needs.{needs}
+use lib.ListN.{length, drop}
 use Rattle.night_names.specs.Names.{sameOf}
 use Rattle.night_names.proofs.Laws.{same-length, same-next, same-differ, same-end}
 use Rattle.night_names.proofs.same.Statement.{statement}
