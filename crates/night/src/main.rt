@@ -1,8 +1,9 @@
-// The night program: IMAGE SESSION N R STATE OUTPUT. It runs a night on the files, prints a line for each slice and one for the
-// night, and puts the new files in the old ones' places only when all of them are written (docs/NIGHT.md).
+// The night program: IMAGE SESSION N R STATE OUTPUT. It runs a night on the files, prints a line for each slice and one for the night, and has
+// night_commit put the new files in the old ones' places (docs/NIGHT.md).
 use machine::Machine;
 use machine::Power;
 use night_arguments::Number;
+use night_steps::Op;
 use saved::Loaded;
 ghost use mathlib.Core.Path.{_≡_};
 ghost use lib.ListN.{length};
@@ -13,6 +14,12 @@ enum Held {
     Longer,
     Missing,
     Failed,
+}
+
+// The two numbers of a call.
+struct Terms {
+    n: u32,
+    r: u32,
 }
 
 // What a night starts from: a machine, or the number of a refusal.
@@ -60,52 +67,6 @@ fn read_file(name: &[u8], buffer: &mut [u8]) -> Held {
     held
 }
 
-// Whether a file of this name and ending is there, or cannot be told not to be.
-fn stands(name: &[u8], ending: &[u8]) -> bool {
-    let mut path = io::buffer();
-    let n = night_arguments::joined(name, ending, &mut path);
-    let fd = os::open_read(&path[..n]);
-    if fd < 0 {
-        return os::errno() != libc::ENOENT;
-    }
-    libc::close(fd);
-    true
-}
-
-// All the bytes are written to an open file and have reached its device.
-fn write_whole(fd: i32, bytes: &[u8]) -> bool {
-    let written = io::write_all(fd, bytes);
-    let synced = libc::fsync(fd);
-    let closed = libc::close(fd);
-    written & (synced == 0) & (closed == 0)
-}
-
-// A new file of this name and ending holds the first `count` bytes.
-fn write_new(name: &[u8], ending: &[u8], bytes: &[u8], count: usize) -> bool {
-    let mut path = io::buffer();
-    let n = night_arguments::joined(name, ending, &mut path);
-    let fd = os::create(&path[..n]);
-    if fd < 0 {
-        return false;
-    }
-    write_whole(fd, cabinet::filled(bytes, count))
-}
-
-fn remove(name: &[u8], ending: &[u8]) {
-    let mut path = io::buffer();
-    let n = night_arguments::joined(name, ending, &mut path);
-    os::unlink(&path[..n]);
-}
-
-// The file of this name and one ending takes this name and another.
-fn place(name: &[u8], from: &[u8], to: &[u8]) -> bool {
-    let mut old = io::buffer();
-    let n = night_arguments::joined(name, from, &mut old);
-    let mut new = io::buffer();
-    let m = night_arguments::joined(name, to, &mut new);
-    os::rename(&old[..n], &new[..m]) == 0
-}
-
 // The machine that the state file holds, or where there is none the machine that power-on gives.
 fn begin(state: &[u8], image: &[u8], r: u32) -> Begun {
     let mut bytes = [0u8; 43];
@@ -138,71 +99,24 @@ fn load(bytes: &[u8]) -> Begun {
     }
 }
 
-// The new files are written, the output's first.
-fn write_all_new(
-    image_name: &[u8],
-    state_name: &[u8],
-    output_name: &[u8],
-    image: &[u8],
-    session: &[u8],
-    output: &[u8],
-    m: Machine,
-    length: usize,
-    sent: usize,
-) -> bool {
-    if !write_new(output_name, b".new", output, sent) {
-        return false;
+// The end of a call, in a number.
+fn tell(end: Op) {
+    match end {
+        Op::Refused(k) => refuse(k),
+        Op::Stopped(k) => refuse(k),
+        _ => refuse(34),
     }
-    if !write_new(image_name, b".new", image, 65536) {
-        return false;
-    }
-    if !write_new(state_name, b".rest.new", session, length) {
-        return false;
-    }
-    let mut state = [0u8; 42];
-    saved::save(m, &mut state);
-    write_new(state_name, b".new", &state, 42)
 }
 
-// The new files take the old ones' places, the output first and the state last.
-fn place_all(image_name: &[u8], state_name: &[u8], output_name: &[u8]) -> bool {
-    if !place(output_name, b".new", b"") {
-        return false;
-    }
-    if !place(state_name, b".rest.new", b".rest") {
-        return false;
-    }
-    if !place(image_name, b".new", b"") {
-        return false;
-    }
-    place(state_name, b".new", b"")
-}
-
-fn remove_all_new(image_name: &[u8], state_name: &[u8], output_name: &[u8]) {
-    remove(output_name, b".new");
-    remove(image_name, b".new");
-    remove(state_name, b".rest.new");
-    remove(state_name, b".new");
-}
-
-fn any_stands(image_name: &[u8], state_name: &[u8], output_name: &[u8]) -> bool {
-    if stands(output_name, b".new") {
-        return true;
-    }
-    if stands(image_name, b".new") {
-        return true;
-    }
-    if stands(state_name, b".rest.new") {
-        return true;
-    }
-    stands(state_name, b".new")
+// A night that did not run: STATE.night is removed.
+fn give_up(state_name: &[u8], names: &[u8]) {
+    night_commit::finish(false, state_name, names, b"", b"", b"", b"");
 }
 
 // A night from a machine, and its files.
 fn pass(
-    image_name: &[u8],
     state_name: &[u8],
-    output_name: &[u8],
+    names: &[u8],
     image: &mut [u8],
     session: &mut [u8],
     size: usize,
@@ -214,99 +128,104 @@ fn pass(
     let night = night_slices::run_night(image, m, session, size, n, &mut output, &mut spare);
     let line = night.line();
     if !night.has_stopped() {
+        give_up(state_name, names);
         line.print();
         return;
     }
-    let end = night.machine;
-    if !write_all_new(
-        image_name,
+    let mut machine = [0u8; 42];
+    saved::save(night.machine, &mut machine);
+    let end = night_commit::finish(
+        true,
         state_name,
-        output_name,
+        names,
         &image[..],
-        &session[..],
-        &output,
-        end,
-        night.length,
-        night.sent,
-    ) {
-        remove_all_new(image_name, state_name, output_name);
-        refuse(34);
-        return;
+        &machine,
+        cabinet::filled(&session[..], night.length),
+        cabinet::filled(&output, night.sent),
+    );
+    match end {
+        Op::Placed => line.print(),
+        _ => tell(end),
     }
-    if !place_all(image_name, state_name, output_name) {
-        refuse(34);
-        return;
-    }
-    line.print();
 }
 
-// A night on files whose session was read.
-fn start(
-    image_name: &[u8],
-    state_name: &[u8],
-    output_name: &[u8],
-    session: &mut [u8],
-    size: usize,
-    n: u32,
-    r: u32,
-) {
-    let mut image = io::large_buffer();
-    let held = read_file(image_name, &mut image);
+// The image's file is read into the buffer: 0, or the number of a refusal.
+fn read_image(name: &[u8], image: &mut [u8]) -> u8 {
+    let held = read_file(name, image);
     match held {
-        Held::Missing => refuse(33),
-        Held::Failed => refuse(33),
-        Held::Longer => refuse(1),
+        Held::Missing => 33,
+        Held::Failed => 33,
+        Held::Longer => 1,
         Held::Bytes(count) => {
             if count != 65536 {
-                refuse(1);
-                return;
+                return 1;
             }
-            let begun = begin(state_name, &image, r);
-            match begun {
-                Begun::Refused(k) => refuse(k),
-                Begun::From(m) => pass(
-                    image_name,
-                    state_name,
-                    output_name,
-                    &mut image,
-                    session,
-                    size,
-                    n,
-                    m,
-                ),
-            }
+            0
         }
     }
 }
 
-// A night on the files of these names.
-fn open(
+// A night whose session was read.
+fn start(
+    image_name: &[u8],
+    state_name: &[u8],
+    names: &[u8],
+    session: &mut [u8],
+    size: usize,
+    terms: Terms,
+) {
+    let mut image = io::large_buffer();
+    let refused = read_image(image_name, &mut image);
+    if refused != 0 {
+        give_up(state_name, names);
+        refuse(refused);
+        return;
+    }
+    let begun = begin(state_name, &image, terms.r);
+    match begun {
+        Begun::Refused(k) => {
+            give_up(state_name, names);
+            refuse(k);
+        }
+        Begun::From(m) => pass(state_name, names, &mut image, session, size, terms.n, m),
+    }
+}
+
+// A night that has STATE.night to itself.
+fn run(image_name: &[u8], session_name: &[u8], state_name: &[u8], names: &[u8], terms: Terms) {
+    let mut session = session_buffer();
+    let held = read_file(session_name, &mut session);
+    match held {
+        Held::Bytes(size) => start(image_name, state_name, names, &mut session, size, terms),
+        _ => {
+            give_up(state_name, names);
+            refuse(33);
+        }
+    }
+}
+
+// A call on files of these names.
+fn call(
     image_name: &[u8],
     session_name: &[u8],
     state_name: &[u8],
     output_name: &[u8],
-    n: u32,
-    r: u32,
+    terms: Terms,
 ) {
-    if any_stands(image_name, state_name, output_name) {
-        refuse(35);
+    if !night_names::are_names(image_name, session_name, state_name, output_name) {
+        refuse(32);
         return;
     }
-    let mut session = session_buffer();
-    let held = read_file(session_name, &mut session);
-    match held {
-        Held::Missing => refuse(33),
-        Held::Failed => refuse(33),
-        Held::Longer => refuse(33),
-        Held::Bytes(size) => start(
-            image_name,
-            state_name,
-            output_name,
-            &mut session,
-            size,
-            n,
-            r,
-        ),
+    let mut buffer = io::buffer();
+    let n = night_names::record_names(image_name, output_name, &mut buffer);
+    if night_commit::has_folder(state_name, &buffer[..n]) {
+        refuse(32);
+        return;
+    }
+    let op = night_commit::prepare(state_name);
+    match op {
+        Op::Run => run(image_name, session_name, state_name, &buffer[..n], terms),
+        _ => tell(op),
     }
 }
 
@@ -340,12 +259,9 @@ fn main() {
     let c = os::arg(5, &mut state);
     let mut output = io::buffer();
     let d = os::arg(6, &mut output);
-    open(
-        &image[..a],
-        &session[..b],
-        &state[..c],
-        &output[..d],
-        cycles,
-        start,
-    );
+    let terms = Terms {
+        n: cycles,
+        r: start,
+    };
+    call(&image[..a], &session[..b], &state[..c], &output[..d], terms);
 }

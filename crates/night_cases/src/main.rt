@@ -91,9 +91,9 @@ fn main() {
     show_number(b"00000000000042");
     show_number(b"12x");
     show_number(b"-1");
-    show_joined(b"a", b".new");
-    show_joined(b"abcd", b".new");
-    show_joined(b"abcde", b".new");
+    show_joined(b"a", b".done");
+    show_joined(b"abc", b".done");
+    show_joined(b"abcd", b".done");
     show_refused();
     show_stopped();
 }

@@ -1,0 +1,82 @@
+-- The names of a night's files.
+use Prim.Native.Nat.{ℕ, _+_, _-_}
+use mathlib.Core.Bool.{Bool, true, false, not, _&&_, _||_, cond}
+use mathlib.Core.List.{List, [], _∷_}
+use lib.Dec.{eqb, ltb, leb}
+use lib.ListN.{length, take, drop}
+use Rattle.printing.specs.Printing.{ascii}
+use Rattle.night_arguments.specs.Arguments.{joinedOf}
+
+-- two texts are the same
+unfoldable pub sameOf : List ℕ → List ℕ → Bool
+sameOf [] [] = true
+sameOf [] (y ∷ ys) = false
+sameOf (x ∷ xs) [] = false
+sameOf (x ∷ xs) (y ∷ ys) = eqb x y && sameOf xs ys
+
+-- where a name's last part begins, after its last `/` (47): i bytes are looked at, and it begins at `at` as far as these tell
+abbrev pub beginsAt : ℕ → ℕ → ℕ → ℕ
+beginsAt byte behind at = cond (eqb byte 47) behind at
+
+unfoldable pub lastFrom : ℕ → ℕ → List ℕ → ℕ
+lastFrom i at [] = at
+lastFrom i at (c ∷ cs) = lastFrom (i + 1) (beginsAt c (i + 1) at) cs
+
+unfoldable pub lastAt : List ℕ → ℕ
+lastAt name = lastFrom 0 0 name
+
+abbrev pub folderOf : List ℕ → List ℕ
+folderOf name = take (lastAt name) name
+
+abbrev pub lastOf : List ℕ → List ℕ
+lastOf name = drop (lastAt name) name
+
+-- "an empty name", also a name that ends with `/`; "a name too long for its endings": a path of 4,095 bytes with `.night/output`, a last
+-- part of 255 with `.night`
+unfoldable pub isPlace : List ℕ → Bool
+isPlace name = (ltb (lastAt name) (length name) && leb (length name) 4082) && leb (length name - lastAt name) 249
+
+-- "in one folder": the same text up to the last `/`
+unfoldable pub isBeside : List ℕ → List ℕ → Bool
+isBeside name state = sameOf (folderOf name) (folderOf state)
+
+-- a name is STATE with an ending
+unfoldable pub isWith : List ℕ → List ℕ → List ℕ → Bool
+isWith name state ending = sameOf name (joinedOf state ending 4096)
+
+-- a name is STATE, or one of the names that a night makes of it
+unfoldable pub isOfState : List ℕ → List ℕ → Bool
+isOfState name state =
+    (((sameOf name state || isWith name state (ascii ".rest")) || isWith name state (ascii ".names")) || isWith name state (ascii ".night"))
+    || isWith name state (ascii ".done")
+
+-- SESSION has a name, and is none of the night's other files; that it is STATE.rest is how a night goes on
+unfoldable pub isRead : List ℕ → List ℕ → List ℕ → List ℕ → Bool
+isRead session image state output =
+    ((ltb 0 (length session) && not (sameOf session image)) && not (sameOf session output))
+    && (not (isOfState session state) || isWith session state (ascii ".rest"))
+
+-- "two arguments that name the same file", by their text; one folder makes the text tell
+unfoldable pub areNames : List ℕ → List ℕ → List ℕ → List ℕ → Bool
+areNames image session state output =
+    (((((((isPlace image && isPlace state) && isPlace output) && isBeside image state) && isBeside output state)
+    && not (isOfState image state)) && not (isOfState output state)) && not (sameOf image output)) && isRead session image state output
+
+-- the names that a night commits along: the last parts of IMAGE and OUTPUT, with a `/` between them
+unfoldable pub namesOf : List ℕ → List ℕ → ℕ → List ℕ
+namesOf image output room = joinedOf (joinedOf (lastOf image) (ascii "/") 4096) (lastOf output) room
+
+-- what stands before the last `/`
+abbrev pub firstOf : List ℕ → List ℕ
+firstOf names = take (lastAt names - 1) names
+
+-- a text is two names with a `/` between them, and has no other
+unfoldable pub areRecorded : List ℕ → Bool
+areRecorded names = (ltb 0 (lastAt names - 1) && ltb (lastAt names) (length names)) && eqb (lastAt (firstOf names)) 0
+
+-- IMAGE and OUTPUT by these names, in STATE's folder
+unfoldable pub imagePlace : List ℕ → List ℕ → ℕ → List ℕ
+imagePlace state names room = joinedOf (folderOf state) (firstOf names) room
+
+unfoldable pub outputPlace : List ℕ → List ℕ → ℕ → List ℕ
+outputPlace state names room = joinedOf (folderOf state) (lastOf names) room

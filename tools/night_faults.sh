@@ -1,0 +1,124 @@
+#!/bin/bash
+# Faults at every system call of a night, of a first night and of a recovery; clean-ups that are killed; two nights at once. docs/NIGHT.md says what must hold.
+#   bash tools/night_faults.sh        some minutes; prints how many faults and how many bad, and each bad one; status 1 where one is bad
+# Needs strace, python3, x86-64, and `rt check night` done. It works in a fresh folder under TMPDIR.
+set -u
+root=$(cd "$(dirname "$0")/.." && pwd)
+mapfile -t words < <(sh "$root/tools/launch.sh" --words)
+[ -x "$root/target/bin/night" ] && command -v strace >/dev/null || { echo "needs strace, and rt check night" >&2; exit 2; }
+room=$(mktemp -d) && trap 'rm -rf "$room"' EXIT
+cd "$room" && mkdir sets d || exit 2
+files="image state state.rest output state.names"
+exec 2>/dev/null  # the shell tells of each one that is killed
+
+# a ROM that counts in $80 and sends the count for ever; an idle line every 4,000 cycles
+python3 - <<'PY'
+image = bytearray(65536)
+image[0xF000:0xF00F] = bytes.fromhex("86029711" "7C0080" "9611" "9680" "9713" "20F5")
+image[0xFFFE:] = b"\xF0\x00"
+open("rom", "wb").write(image)
+open("evening", "wb").write(b"".join(b"\x06\0\x06\0" + (4000 * k).to_bytes(4, "little") for k in range(40)))
+PY
+
+night() { "${words[@]}" "$root/target/bin/night" "$@"; }             # the program, in the folder d
+faulty() { strace -o ../log "$@" "${words[@]}" "$root/target/bin/night" "${call[@]}" >../out; }
+keep() { rm -rf "sets/$1"; cp -r d "sets/$1"; }
+back() { rm -rf d; cp -r "sets/$1" d; }
+said() { grep -q "$1" ../out; }
+same() {                                                             # the five files are those of a set
+    local f
+    for f in $files; do
+        if [ -e "../sets/$1/$f" ]; then cmp -s "../sets/$1/$f" "$f" || return 1; else [ ! -e "$f" ] || return 1; fi
+    done
+}
+total=0 bad=0
+wrong() { bad=$((bad + 1)); echo "bad: $*: $(tr '\n' ' ' <../out)"; }
+
+# what a fault has left, in d: one of two sets of files; where STATE.done stands, a call makes it the new one (a recovery may be stopped before its own
+# night). Then a whole night runs.
+judge() {
+    local old=$1 new=$2 what=$3
+    total=$((total + 1))
+    if said 'night stop' && { ! same "$new" || [ -e state.done ] || [ -e state.night ]; }; then wrong "$what: told, not done"; return; fi
+    if [ -e state.done ]; then
+        rm -rf state.night && mkdir state.night
+        night "${call[@]}" >../again
+        [ ! -e state.done ] && [ "$(cat ../again)" = 'refused 35' ] || { wrong "$what: not recovered"; return; }
+        same "$new" || { [ "$old" = two ] && same two; } || { wrong "$what: mixed after the recovery"; return; }
+    elif ! same "$old" && ! same "$new"; then
+        wrong "$what: mixed"; return
+    fi
+    rm -rf state.night
+    night image evening 5000 61440 state output >../again
+    tail -n 1 ../again | grep -q '^night stop' && [ ! -e state.done ] && [ ! -e state.night ] || wrong "$what: no night runs after it"
+}
+
+# every system call of a call from a set, killed and failed
+faults() {
+    local name=$1 from=$2 old=$3 new=$4 what syscall count k
+    back "$from"; cd d || exit 2
+    faulty
+    said 'night stop' || { echo "no night from $from: $(cat ../out)"; exit 2; }
+    sed -n 's/^\([a-z_0-9]*\)(.*/\1/p' ../log | grep -v 'execve\|exit_group' | sort | uniq -c >../calls
+    while read -r count syscall; do
+        for what in signal=KILL error=EIO error=ENOSPC error=EACCES error=EINTR; do
+            for k in $(seq 1 "$count"); do
+                cd ..; back "$from"; cd d || exit 2
+                faulty -e "trace=$syscall" -e "inject=$syscall:$what:when=$k"
+                grep -q 'INJECTED\|killed by SIGKILL' ../log || { wrong "$name $syscall $k: no fault"; continue; }
+                judge "$old" "$new" "$name $what $syscall $k"
+            done
+        done
+    done <../calls
+    cd ..
+}
+
+# a write fails, and the clean-up is killed
+cleanups() {
+    local k j syscall
+    for k in 1 2 3 4 5; do
+        for syscall in unlink rmdir; do
+            for j in 1 2 3 4 5; do
+                [ $syscall = unlink ] || [ "$j" = 1 ] || continue
+                back one; cd d || exit 2
+                faulty -e trace=fsync,$syscall -e "inject=fsync:error=ENOSPC:when=$((k + 1))" -e "inject=$syscall:signal=KILL:when=$j"
+                judge one one "clean-up after file $k, $syscall $j"
+                cd ..
+            done
+        done
+    done
+}
+
+cp rom d/image; cp evening d/evening; keep none
+call=(image evening 9000 61440 state output)
+(cd d && night "${call[@]}" >/dev/null); keep one
+call=(image state.rest 14000 61440 state output)
+(cd d && night "${call[@]}" >/dev/null); keep two
+(cd d && night "${call[@]}" >/dev/null); keep three
+back one; (cd d && faulty -e trace=rename -e inject=rename:signal=KILL:when=3); keep half
+[ -e d/state.done ] || { echo "no STATE.done to recover from"; exit 2; }
+for f in image state state.rest output; do
+    if cmp -s sets/one/$f sets/two/$f || cmp -s sets/two/$f sets/three/$f; then echo "two nights leave the same $f: nothing would show"; exit 2; fi
+done
+
+call=(image evening 9000 61440 state output); faults first none none one
+call=(image state.rest 14000 61440 state output); faults night one one two
+faults recovery half two three
+cleanups
+echo "faults $total bad $bad"
+
+worse=0 refused=0 followed=0
+for k in $(seq 1 100); do
+    back one; cd d || exit 2
+    night "${call[@]}" >../first & a=$!
+    night "${call[@]}" >../second & b=$!
+    wait $a $b
+    told=$(cat ../first ../second | grep -c '^night stop'); late=$(cat ../first ../second | grep -c '^refused 35')
+    if [ "$told $late" = '1 1' ] && same two; then refused=$((refused + 1))
+    elif [ "$told $late" = '2 0' ] && same three; then followed=$((followed + 1))
+    else worse=$((worse + 1)); echo "bad: two at once $k: $(cat ../first ../second | tr '\n' ' ')"; fi
+    { [ -e state.done ] || [ -e state.night ]; } && { worse=$((worse + 1)); echo "bad: two at once $k: a folder is left"; }
+    cd ..
+done
+echo "two at once 100 bad $worse (the second refused $refused, followed $followed)"
+[ "$bad$worse" = 00 ]
