@@ -31,7 +31,7 @@ same() {                                                             # the five 
         if [ -e "../sets/$1/$f" ]; then cmp -s "../sets/$1/$f" "$f" || return 1; else [ ! -e "$f" ] || return 1; fi
     done
 }
-total=0 bad=0
+total=0 bad=0 stood=0 stuck=0
 wrong() { bad=$((bad + 1)); echo "bad: $*: $(tr '\n' ' ' <../out)"; }
 
 # what a fault has left, in d: one of two sets of files; where STATE.done stands, a call makes it the new one (a recovery may be stopped before its own
@@ -40,7 +40,9 @@ judge() {
     local old=$1 new=$2 what=$3
     total=$((total + 1))
     if said 'night stop' && { ! same "$new" || [ -e state.done ] || [ -e state.night ]; }; then wrong "$what: told, not done"; return; fi
+    [ ! -e state.night ] || stuck=$((stuck + 1))
     if [ -e state.done ]; then
+        stood=$((stood + 1))
         rm -rf state.night && mkdir state.night
         night "${call[@]}" >../again
         [ ! -e state.done ] && [ "$(cat ../again)" = 'refused 35' ] || { wrong "$what: not recovered"; return; }
@@ -105,7 +107,7 @@ call=(image evening 9000 61440 state output); faults first none none one
 call=(image state.rest 14000 61440 state output); faults night one one two
 faults recovery half two three
 cleanups
-echo "faults $total bad $bad"
+echo "faults $total bad $bad (STATE.done stood after $stood, STATE.night after $stuck)"
 
 worse=0 refused=0 followed=0
 for k in $(seq 1 100); do

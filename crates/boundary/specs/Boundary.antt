@@ -24,7 +24,8 @@ use Rattle.boundary.specs.declared.Stop.the-variants.{Limit, Undefined, 
 use Rattle.boundary.specs.declared.Progress.{Progress}
 use Rattle.boundary.specs.declared.Progress.the-variants.{Going, Stopped}
 use Rattle.boundary.specs.declared.Turned.{Turned}
-use Rattle.boundary.specs.World.{Lent, memoriesIn, withMemories, withOutput, Terms, World, worldOf, Ended, endedOf, byEntry, byWaiting, byInstructions, grownTo}
+use Rattle.boundary.specs.World.{Lent, memoriesIn, withMemories, withOutput, Terms, World, worldOf, Ended, endedOf}
+use Rattle.boundary.specs.World.{byEntry, byWaiting, byInstructions, grownTo}
 
 -- Step 2: "Apply every unused record with time not above the count, in file order."
 unfoldable pub recordTaken : List ℕ → Memories → State → State

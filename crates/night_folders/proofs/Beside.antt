@@ -4,13 +4,13 @@ use mathlib.Core.Path.{_≡_, refl, sym, ap, subst, _∙_}
 use mathlib.Core.Bool.{Bool, true, false, _&&_, cond}
 use mathlib.Core.List.{List, [], _∷_}
 use Prim.Native.Nat.{ℕ, suc}
-use lib.Dec.{T, eqb}
-use Rattle.night_folders.specs.Folders.{fresh, made, written, saved, moved, down, making, sealed, decided, placing, clearing, undoing, File, Home, World}
+use lib.Dec.{T}
+use Rattle.night_folders.specs.Folders.{File, Home, World}
 use Rattle.night_folders.specs.Folders.{Event, create, write, fsync-file, fsync-night, commit, call, fsync-commit, put, fsync-place, rmdir-done, fsync-last}
 use Rattle.night_folders.specs.Folders.{fail, unlink, rmdir-night, kill, also-call, also-fsync, also-put, also-place, also-rmdir, also-last, also-kill, cut}
 use Rattle.night_folders.specs.Folders.{land-night, land-done, land-spot, land-text, land-half, Act, _at_}
-use Rattle.night_folders.specs.Rules.{phaseNo, stepNo, may, only, asks}
-use Rattle.night_folders.specs.Effects.{turn, does, tests, changes, allowed, forced, step-of, run, lawful}
+use Rattle.night_folders.specs.Rules.{may, asks}
+use Rattle.night_folders.specs.Effects.{to, stepTo, turn, does, tests, changes, allowed, forced, step-of, run, lawful}
 use Rattle.night_folders.proofs.Every.{first, second, both}
 
 -- an operation of the running call; its first, which finds STATE.done, goes by what it finds
@@ -155,20 +155,20 @@ step-kept land-half t true f = refl
 step-kept land-half t false f = refl
 
 may-by : (e : Event) → T (inner e) → (g h : Home) → g .phase ≡ h .phase → may e g ≡ may e h
-may-by create t g h q = ap (λ p. eqb (phaseNo making) (phaseNo p)) q
-may-by write t g h q = ap (λ p. eqb (phaseNo making) (phaseNo p)) q
-may-by fsync-file t g h q = ap (λ p. eqb (phaseNo making) (phaseNo p)) q
-may-by fsync-night t g h q = ap (λ p. eqb (phaseNo making) (phaseNo p)) q
-may-by commit t g h q = ap (λ p. eqb (phaseNo sealed) (phaseNo p)) q
+may-by create t g h q = ap (λ p. may create (to p g)) q
+may-by write t g h q = ap (λ p. may write (to p g)) q
+may-by fsync-file t g h q = ap (λ p. may fsync-file (to p g)) q
+may-by fsync-night t g h q = ap (λ p. may fsync-night (to p g)) q
+may-by commit t g h q = ap (λ p. may commit (to p g)) q
 may-by call t g h q = absurd t
-may-by fsync-commit t g h q = ap (λ p. eqb (phaseNo decided) (phaseNo p)) q
-may-by put t g h q = ap (λ p. eqb (phaseNo placing) (phaseNo p)) q
-may-by fsync-place t g h q = ap (λ p. eqb (phaseNo placing) (phaseNo p)) q
-may-by rmdir-done t g h q = ap (λ p. eqb (phaseNo placing) (phaseNo p)) q
-may-by fsync-last t g h q = ap (λ p. eqb (phaseNo clearing) (phaseNo p)) q
-may-by fail t g h q = ap (λ p. eqb (phaseNo making) (phaseNo p)) q
-may-by unlink t g h q = ap (λ p. eqb (phaseNo undoing) (phaseNo p)) q
-may-by rmdir-night t g h q = ap (λ p. eqb (phaseNo undoing) (phaseNo p)) q
+may-by fsync-commit t g h q = ap (λ p. may fsync-commit (to p g)) q
+may-by put t g h q = ap (λ p. may put (to p g)) q
+may-by fsync-place t g h q = ap (λ p. may fsync-place (to p g)) q
+may-by rmdir-done t g h q = ap (λ p. may rmdir-done (to p g)) q
+may-by fsync-last t g h q = ap (λ p. may fsync-last (to p g)) q
+may-by fail t g h q = ap (λ p. may fail (to p g)) q
+may-by unlink t g h q = ap (λ p. may unlink (to p g)) q
+may-by rmdir-night t g h q = ap (λ p. may rmdir-night (to p g)) q
 may-by kill t g h q = refl
 may-by also-call t g h q = absurd t
 may-by also-fsync t g h q = absurd t
@@ -185,16 +185,16 @@ may-by land-text t g h q = absurd t
 may-by land-half t g h q = absurd t
 
 asks-by : (e : Event) → T (inner e) → (b : Bool) (f g : File) → f .step ≡ g .step → asks e b f ≡ asks e b g
-asks-by create t b f g q = ap (λ s. only b (eqb (stepNo fresh) (stepNo s))) q
-asks-by write t b f g q = ap (λ s. only b (eqb (stepNo made) (stepNo s))) q
-asks-by fsync-file t b f g q = ap (λ s. only b (eqb (stepNo written) (stepNo s))) q
-asks-by fsync-night t b f g q = ap (λ s. eqb (stepNo saved) (stepNo s)) q
+asks-by create t b f g q = ap (λ s. asks create b (stepTo s f)) q
+asks-by write t b f g q = ap (λ s. asks write b (stepTo s f)) q
+asks-by fsync-file t b f g q = ap (λ s. asks fsync-file b (stepTo s f)) q
+asks-by fsync-night t b f g q = ap (λ s. asks fsync-night b (stepTo s f)) q
 asks-by commit t b f g q = refl
 asks-by call t b f g q = absurd t
 asks-by fsync-commit t b f g q = refl
-asks-by put t b f g q = ap (λ s. only b (eqb (stepNo saved) (stepNo s))) q
-asks-by fsync-place t b f g q = ap (λ s. only b (eqb (stepNo moved) (stepNo s))) q
-asks-by rmdir-done t b f g q = ap (λ s. eqb (stepNo down) (stepNo s)) q
+asks-by put t b f g q = ap (λ s. asks put b (stepTo s f)) q
+asks-by fsync-place t b f g q = ap (λ s. asks fsync-place b (stepTo s f)) q
+asks-by rmdir-done t b f g q = ap (λ s. asks rmdir-done b (stepTo s f)) q
 asks-by fsync-last t b f g q = refl
 asks-by fail t b f g q = refl
 asks-by unlink t b f g q = refl
