@@ -21,11 +21,33 @@ fn stands(name: &[u8], ending: &[u8]) -> bool {
     true
 }
 
-// A name is a folder's, or cannot be told not to be: a path through a file is answered with ENOTDIR.
-fn is_folder(name: &[u8], ending: &[u8]) -> bool {
-    let mut path = io::buffer();
-    let n = night_arguments::joined(name, ending, &mut path);
-    let fd = open_with(&path[..n], b"/.");
+// The place of a file, by its number (`Op` of night_steps).
+fn place_of(i: u8, state: &[u8], names: &[u8], buffer: &mut [u8]) -> usize
+    ensures { λ r. ⌜ Counts r (now (buffer .exit)) ⌝ }
+{
+    match i {
+        0 => night_names::image_place(state, names, buffer),
+        1 => night_arguments::joined(state, b"", buffer),
+        2 => night_arguments::joined(state, b".rest", buffer),
+        3 => night_names::output_place(state, names, buffer),
+        _ => night_arguments::joined(state, b".names", buffer),
+    }
+}
+
+// Where the file stands in STATE.night/ or STATE.done/.
+fn work_of(i: u8, folder: &[u8], state: &[u8], names: &[u8], buffer: &mut [u8]) -> usize
+    ensures { λ r. ⌜ Counts r (now (buffer .exit)) ⌝ }
+{
+    let mut place = io::buffer();
+    let n = place_of(i, state, names, &mut place);
+    night_names::work_place(state, folder, &place[..n], buffer)
+}
+
+// A file's place is a folder, or cannot be told not to be: a path through a file is answered with ENOTDIR.
+fn is_folder(i: u8, state: &[u8], names: &[u8]) -> bool {
+    let mut place = io::buffer();
+    let n = place_of(i, state, names, &mut place);
+    let fd = open_with(&place[..n], b"/.");
     if fd < 0 {
         let error = os::errno();
         return (error != libc::ENOENT) & (error != libc::ENOTDIR);
@@ -36,12 +58,10 @@ fn is_folder(name: &[u8], ending: &[u8]) -> bool {
 
 // Whether one of the five places of a night's files is a folder.
 pub fn has_folder(state: &[u8], names: &[u8]) -> bool {
-    let mut image = io::buffer();
-    let a = night_names::image_place(state, names, &mut image);
-    let mut output = io::buffer();
-    let b = night_names::output_place(state, names, &mut output);
-    let files = is_folder(&image[..a], b"") | is_folder(&output[..b], b"");
-    files | is_folder(state, b"") | is_folder(state, b".rest") | is_folder(state, b".names")
+    let files = is_folder(0, state, names)
+        | is_folder(1, state, names)
+        | is_folder(2, state, names);
+    files | is_folder(3, state, names) | is_folder(4, state, names)
 }
 
 // What an open file or folder holds has reached the device, and it is closed.
@@ -100,26 +120,16 @@ fn commit(state: &[u8]) -> bool {
     os::rename(&from[..n], &to[..m]) == 0
 }
 
-fn unlink(state: &[u8], ending: &[u8]) -> bool {
+fn unlink_file(i: u8, state: &[u8], names: &[u8]) -> bool {
     let mut path = io::buffer();
-    let n = night_arguments::joined(state, ending, &mut path);
+    let n = work_of(i, b".night/", state, names, &mut path);
     os::unlink(&path[..n]) == 0
 }
 
-fn unlink_file(i: u8, state: &[u8]) -> bool {
-    match i {
-        0 => unlink(state, b".night/image"),
-        1 => unlink(state, b".night/state"),
-        2 => unlink(state, b".night/rest"),
-        3 => unlink(state, b".night/output"),
-        _ => unlink(state, b".night/names"),
-    }
-}
-
-// A new file of this name holds these bytes, and so on the device.
-fn make(state: &[u8], ending: &[u8], bytes: &[u8]) -> bool {
+// A new file holds these bytes, and so on the device.
+fn make(i: u8, state: &[u8], names: &[u8], bytes: &[u8]) -> bool {
     let mut path = io::buffer();
-    let n = night_arguments::joined(state, ending, &mut path);
+    let n = work_of(i, b".night/", state, names, &mut path);
     let fd = os::create(&path[..n]);
     if fd < 0 {
         return false;
@@ -129,41 +139,15 @@ fn make(state: &[u8], ending: &[u8], bytes: &[u8]) -> bool {
 }
 
 // A file takes its place, or is gone: it is there already.
-fn put(state: &[u8], ending: &[u8], place: &[u8]) -> bool {
+fn put_file(i: u8, state: &[u8], names: &[u8]) -> bool {
     let mut path = io::buffer();
-    let n = night_arguments::joined(state, ending, &mut path);
-    if os::rename(&path[..n], place) == 0 {
+    let n = work_of(i, b".done/", state, names, &mut path);
+    let mut place = io::buffer();
+    let m = place_of(i, state, names, &mut place);
+    if os::rename(&path[..n], &place[..m]) == 0 {
         return true;
     }
     is_gone()
-}
-
-fn put_image(state: &[u8], names: &[u8]) -> bool {
-    let mut place = io::buffer();
-    let n = night_names::image_place(state, names, &mut place);
-    put(state, b".done/image", &place[..n])
-}
-
-fn put_output(state: &[u8], names: &[u8]) -> bool {
-    let mut place = io::buffer();
-    let n = night_names::output_place(state, names, &mut place);
-    put(state, b".done/output", &place[..n])
-}
-
-fn put_beside(state: &[u8], ending: &[u8], place_ending: &[u8]) -> bool {
-    let mut place = io::buffer();
-    let n = night_arguments::joined(state, place_ending, &mut place);
-    put(state, ending, &place[..n])
-}
-
-fn put_file(i: u8, state: &[u8], names: &[u8]) -> bool {
-    match i {
-        0 => put_image(state, names),
-        1 => put_beside(state, b".done/state", b""),
-        2 => put_beside(state, b".done/rest", b".rest"),
-        3 => put_output(state, names),
-        _ => put_beside(state, b".done/names", b".names"),
-    }
 }
 
 // One operation that does not wait, and whether it went well.
@@ -176,7 +160,7 @@ fn carry_out(op: Op, state: &[u8], names: &[u8]) -> bool {
         Op::Settle => sync_home(state),
         Op::GiveBack(k) => remove_folder(state, b".night"),
         Op::SyncNight => sync_folder(state, b".night"),
-        Op::Unlink(i) => unlink_file(i, state),
+        Op::Unlink(i) => unlink_file(i, state, names),
         Op::RemoveNight => remove_folder(state, b".night"),
         Op::Commit => commit(state),
         Op::SyncCommit => sync_home(state),
@@ -218,7 +202,9 @@ fn read_whole(fd: i32, buffer: &mut [u8]) -> usize
 fn read_names(state: &[u8], buffer: &mut [u8]) -> usize
     ensures { λ r. ⌜ Counts r (now (buffer .exit)) ⌝ }
 {
-    let fd = open_with(state, b".done/names");
+    let mut path = io::buffer();
+    let n = work_of(4, b".done/", state, b"", &mut path);
+    let fd = os::open_read(&path[..n]);
     if 0 <= fd {
         return read_whole(fd, buffer);
     }
@@ -272,11 +258,11 @@ fn make_file(
         return false;
     };
     match i {
-        0 => make(state, b".night/image", image),
-        1 => make(state, b".night/state", machine),
-        2 => make(state, b".night/rest", rest),
-        3 => make(state, b".night/output", output),
-        _ => make(state, b".night/names", names),
+        0 => make(i, state, names, image),
+        1 => make(i, state, names, machine),
+        2 => make(i, state, names, rest),
+        3 => make(i, state, names, output),
+        _ => make(i, state, names, names),
     }
 }
 

@@ -14,7 +14,7 @@ use Rattle.laws.proofs.Conds.{cases}
 use Rattle.laws.proofs.Lists.{take-rest}
 use Rattle.printing.specs.Printing.{ascii}
 use Rattle.night_arguments.specs.Arguments.{joinedOf}
-use Rattle.night_names.specs.Names.{sameOf, beginsAt, lastFrom, lastAt, outputPlace, imagePlace, namesOf}
+use Rattle.night_names.specs.Names.{sameOf, beginsAt, lastFrom, lastAt, outputPlace, imagePlace, namesOf, workOf}
 
 pub same-length : (a b : List ℕ) → length a ≢ length b → sameOf a b ≡ false
 unfolding sameOf
@@ -71,3 +71,9 @@ pub names-is : (image output : List ℕ) (room : ℕ) {a b size : ℕ} {front : 
     → joinedOf front (take (length output - b) (drop b output)) room ≡ namesOf image output room
 unfolding namesOf
 names-is image output room e g s h = rw (h, ← s, e, g, take-rest (lastAt image) image, take-rest (lastAt output) output)
+
+pub work-is : (state folder place : List ℕ) (room : ℕ) {a size : ℕ} {front : List ℕ} → a ≡ lastAt place → 4096 ≡ size
+    → front ≡ joinedOf state folder size
+    → joinedOf front (take (length place - a) (drop a place)) room ≡ workOf state folder place room
+unfolding workOf
+work-is state folder place room e s h = rw (h, ← s, e, take-rest (lastAt place) place)

@@ -31,10 +31,10 @@ folderOf name = take (lastAt name) name
 abbrev pub lastOf : List ℕ → List ℕ
 lastOf name = drop (lastAt name) name
 
--- "an empty name", also a name that ends with `/`; "a name too long for its endings": a path of 4,095 bytes with `.night/output`, a last
--- part of 255 with `.night`
+-- "an empty name", also a name that ends with `/`; "a name too long for its endings": a last part of 255 bytes with `.names`, a path of 4,095
+-- with `.night/` and such a part
 unfoldable pub isPlace : List ℕ → Bool
-isPlace name = (ltb (lastAt name) (length name) && leb (length name) 4082) && leb (length name - lastAt name) 249
+isPlace name = (ltb (lastAt name) (length name) && leb (length name) 3833) && leb (length name - lastAt name) 249
 
 -- "in one folder": the same text up to the last `/`
 unfoldable pub isBeside : List ℕ → List ℕ → Bool
@@ -67,16 +67,21 @@ unfoldable pub namesOf : List ℕ → List ℕ → ℕ → List ℕ
 namesOf image output room = joinedOf (joinedOf (lastOf image) (ascii "/") 4096) (lastOf output) room
 
 -- what stands before the last `/`
-abbrev pub firstOf : List ℕ → List ℕ
-firstOf names = take (lastAt names - 1) names
+abbrev pub imageIn : List ℕ → List ℕ
+imageIn names = take (lastAt names - 1) names
 
 -- a text is two names with a `/` between them, and has no other
 unfoldable pub areRecorded : List ℕ → Bool
-areRecorded names = (ltb 0 (lastAt names - 1) && ltb (lastAt names) (length names)) && eqb (lastAt (firstOf names)) 0
+areRecorded names = (ltb 0 (lastAt names - 1) && ltb (lastAt names) (length names)) && eqb (lastAt (imageIn names)) 0
 
 -- IMAGE and OUTPUT by these names, in STATE's folder
 unfoldable pub imagePlace : List ℕ → List ℕ → ℕ → List ℕ
-imagePlace state names room = joinedOf (folderOf state) (firstOf names) room
+imagePlace state names room = joinedOf (folderOf state) (imageIn names) room
 
 unfoldable pub outputPlace : List ℕ → List ℕ → ℕ → List ℕ
 outputPlace state names room = joinedOf (folderOf state) (lastOf names) room
+
+-- where a file stands until it is put at its place: in STATE.night/, after the commit in STATE.done/, under the last part of its place. So no
+-- rename puts it at another place, also by a call that has the names of an earlier night.
+unfoldable pub workOf : List ℕ → List ℕ → List ℕ → ℕ → List ℕ
+workOf state folder place room = joinedOf (joinedOf state folder 4096) (lastOf place) room

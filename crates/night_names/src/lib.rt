@@ -4,8 +4,8 @@ ghost use Prim.Native.Nat.{_-_, _≤_};
 ghost use mathlib.Core.Path.{_≡_};
 ghost use lib.ListN.{length, take};
 ghost use Rattle.io.specs.Counts.{Counts};
-ghost use Rattle.night_arguments.specs.Arguments.{joinedOf};
 ghost use Rattle.night_names.specs.Names.{sameOf, beginsAt, lastAt, isPlace, isBeside, isWith, isOfState, isRead, areNames};
+ghost use Rattle.night_names.specs.Names.{namesOf, areRecorded, imagePlace, outputPlace, workOf};
 ghost use Rattle.night_names.specs.Names.{namesOf, areRecorded, imagePlace, outputPlace};
 
 // Whether two texts are the same.
@@ -55,7 +55,7 @@ fn is_place(name: &[u8]) -> bool
     ensures { λ r. ⌜ r ≡ isPlace (now (name .entry)) ⌝ }
 {
     let at = last_at(name);
-    (at < name.len()) & (name.len() <= 4082) & (name.len() - at <= 249)
+    (at < name.len()) & (name.len() <= 3833) & (name.len() - at <= 249)
 }
 
 // Whether two names have one text up to the last `/`.
@@ -174,4 +174,16 @@ pub fn output_place(state: &[u8], names: &[u8], buffer: &mut [u8]) -> usize
     let folder = last_at(state);
     let at = last_at(names);
     night_arguments::joined(&state[..folder], &names[at..], buffer)
+}
+
+// Where the file of a place stands in STATE.night/ or STATE.done/.
+pub fn work_place(state: &[u8], folder: &[u8], place: &[u8], buffer: &mut [u8]) -> usize
+    ensures { λ r. ⌜ Counts r (now (buffer .exit)) ⌝ }
+    ensures { λ r. ⌜ take r (now (buffer .exit))
+        ≡ workOf (now (state .entry)) (now (folder .entry)) (now (place .entry)) (length (now (buffer .entry))) ⌝ }
+{
+    let at = last_at(place);
+    let mut front = io::buffer();
+    let n = night_arguments::joined(state, folder, &mut front);
+    night_arguments::joined(&front[..n], &place[at..], buffer)
 }

@@ -1,17 +1,18 @@
--- By the names that a night commits along, a recovery that has the same STATE folder finds that night's IMAGE and OUTPUT. Assumes nothing.
+-- By the names that a night commits along, a recovery that has the same STATE folder finds that night's IMAGE and OUTPUT; and what stands in
+-- STATE.done/ for one place is put at no other. Assumes nothing.
 use Prim.Native.Nat.{ℕ, _+_, _-_, _≤_, _<_}
 use native.Mathlib.Omega.{arith}
 use mathlib.Core.Bool.{true, _&&_}
 use mathlib.Core.List.{List, [], _∷_, _++_}
-use mathlib.Core.Path.{_≡_, sym, ap, _∙_}
+use mathlib.Core.Path.{_≡_, refl, sym, ap, _∙_}
 use lib.Dec.{ltb, leb}
-use lib.ListN.{length, length-append, length-drop, take-append-drop}
-use lib.Seq.{length-take-le}
+use lib.ListN.{length, drop, length-append, length-drop, take-append-drop}
+use lib.Seq.{length-take-le, drop-at}
 use borrow.Author.Tests.{le-ltb, lt-ltb, ltb-true, leb-true}
 use Rattle.laws.proofs.Bools.{both}
 use Rattle.laws.proofs.Conds.{passes}
 use Rattle.night_arguments.specs.Arguments.{joinedOf}
-use Rattle.night_names.specs.Names.{lastAt, folderOf, lastOf, firstOf, isPlace, isBeside, namesOf, areRecorded, imagePlace, outputPlace}
+use Rattle.night_names.specs.Names.{lastAt, folderOf, lastOf, imageIn, isPlace, isBeside, namesOf, areRecorded, imagePlace, outputPlace, workOf}
 use Rattle.night_names_theorems.proofs.Parts.{same-sound, last-plain, last-within, last-zero, glued, last-glued, last-of-glued, first-of-glued}
 
 joins : (a b : List ℕ) (room : ℕ) → length a + length b ≤ room → joinedOf a b room ≡ a ++ b
@@ -20,11 +21,11 @@ joins a b room h = passes _ _ (le-ltb _ _ h)
 
 -- a place: its last part is there and not too long
 module _ (name : List ℕ) (p : isPlace name ≡ true) where
-  sized : (lastAt name < length name) × (length name ≤ 4082) × (length name - lastAt name ≤ 249)
+  sized : (lastAt name < length name) × (length name ≤ 3833) × (length name - lastAt name ≤ 249)
   unfolding isPlace
   sized =
-      let u = both (ltb (lastAt name) (length name) && leb (length name) 4082) (leb (length name - lastAt name) 249) p in
-      let v = both (ltb (lastAt name) (length name)) (leb (length name) 4082) (u .0) in
+      let u = both (ltb (lastAt name) (length name) && leb (length name) 3833) (leb (length name - lastAt name) 249) p in
+      let v = both (ltb (lastAt name) (length name)) (leb (length name) 3833) (u .0) in
       (ltb-true _ _ (v .0), leb-true _ _ (v .1), leb-true _ _ (u .1))
 
   part-sized : length (lastOf name) ≡ length name - lastAt name
@@ -57,7 +58,7 @@ module _ (image output : List ℕ) (p : isPlace image ≡ true) (q : isPlace out
   pub image-back : (state : List ℕ) → isBeside image state ≡ true → imagePlace state (namesOf image output 4096) 4096 ≡ image
   unfolding imagePlace
   image-back state e =
-      ap (λ (n : List ℕ). joinedOf (folderOf state) n 4096) (ap firstOf recorded ∙ first-of-glued (lastOf image) (lastOf output) (last-plain output))
+      ap (λ (n : List ℕ). joinedOf (folderOf state) n 4096) (ap imageIn recorded ∙ first-of-glued (lastOf image) (lastOf output) (last-plain output))
       ∙ whole image p state e
 
   pub output-back : (state : List ℕ) → isBeside output state ≡ true → outputPlace state (namesOf image output 4096) 4096 ≡ output
@@ -84,6 +85,29 @@ module _ (image output : List ℕ) (p : isPlace image ≡ true) (q : isPlace out
           let names : List ℕ = lastOf image ++ 47 ∷ lastOf output in
           let some : 0 < lastAt names - 1 = omega arith in
           let more : lastAt names < length names = omega arith in
-          let plain : lastAt (firstOf names) ≡ 0 =
+          let plain : lastAt (imageIn names) ≡ 0 =
           ap lastAt (first-of-glued (lastOf image) (lastOf output) n) ∙ last-zero (lastOf image) (last-plain image) in
           rw (lt-ltb 0 (lastAt names - 1) some, lt-ltb (lastAt names) (length names) more, plain)
+
+-- two places in STATE's folder for which one file of STATE.night/ or STATE.done/ stands are one place
+module _ (state folder : List ℕ) (h : length state + length folder ≤ 3840) where
+  worked : (p : List ℕ) → length (lastOf p) ≤ 255 → workOf state folder p 4096 ≡ (state ++ folder) ++ lastOf p
+  unfolding workOf
+  worked p k =
+      let m = length-append state folder in
+      ap (λ (f : List ℕ). joinedOf f (lastOf p) 4096) (joins state folder 4096 (omega arith)) ∙ joins (state ++ folder) (lastOf p) 4096 (omega arith)
+
+  pub one-place : (p q : List ℕ) → isPlace p ≡ true → isPlace q ≡ true → isBeside p state ≡ true → isBeside q state ≡ true
+      → workOf state folder p 4096 ≡ workOf state folder q 4096 → p ≡ q
+  one-place p q a b c d e =
+      let s = sized p a in
+      let t = sized q b in
+      let j = part-sized p a in
+      let k = part-sized q b in
+      let x = s .2 in
+      let y = t .2 in
+      let f = state ++ folder in
+      let same : lastOf p ≡ lastOf q =
+      sym (drop-at f (lastOf p) (length f) refl)
+      ∙ ap (drop (length f)) (sym (worked p (omega arith)) ∙ e ∙ worked q (omega arith)) ∙ drop-at f (lastOf q) (length f) refl in
+      sym (whole p a state c) ∙ ap (λ (l : List ℕ). joinedOf (folderOf state) l 4096) same ∙ whole q b state d

@@ -1,5 +1,6 @@
 // The recovery on prepared folders, one for each case, in data/: STATE.done with all, some and none of its files, with other names, without names;
-// STATE.night standing. Then a whole night, one that did not run, one that fails. The old files hold `old` and the new ones `new`.
+// STATE.night standing; a call that has an earlier night's names. Then a whole night, one that did not run, two that fail. The old files hold `old`
+// and the new ones `new`. Last the names that a call may have.
 use night_steps::Op;
 use printing::Line;
 
@@ -8,6 +9,13 @@ fn make_in(case: &[u8], name: &[u8]) {
     let mut path = io::buffer();
     let n = night_arguments::joined(case, name, &mut path);
     os::mkdir(&path[..n]);
+}
+
+// An empty file in a case's folder.
+fn create_in(case: &[u8], name: &[u8]) {
+    let mut path = io::buffer();
+    let n = night_arguments::joined(case, name, &mut path);
+    libc::close(os::create(&path[..n]));
 }
 
 fn open_in(case: &[u8], name: &[u8]) -> i32 {
@@ -101,6 +109,16 @@ fn recoveries() {
     call(b"misnamed");
 }
 
+// A call found STATE.done of another night, with other names, and puts files in place only now.
+fn stale() {
+    let op = night_commit::carry(Op::SyncCommit, false, b"stale/state", b"image/output");
+    show_case(b"stale", op);
+    call(b"stale");
+    show(b"stale", b"/rom");
+    show(b"stale", b"/sent");
+    Line::empty().text(b" are rom and sent\n").print();
+}
+
 fn refusals() {
     make_in(b"night", b"/state.night");
     make_in(b"both", b"/state.night");
@@ -117,6 +135,9 @@ fn nights() {
     call(b"unmade");
     make_in(b"unmade", b"/state.night/output");
     end(b"unmade", true);
+    call(b"cleaned");
+    create_in(b"cleaned", b"/state.night/output");
+    end(b"cleaned", true);
 }
 
 // Whether a place is a folder.
@@ -138,9 +159,62 @@ fn places() {
     show_any(b"state.rest", b"state", b"image/output");
 }
 
+// Whether a call may have these names.
+fn show_names(word: &[u8], image: &[u8], session: &[u8], state: &[u8], output: &[u8]) {
+    Line::empty().text(word).print();
+    if night_names::are_names(image, session, state, output) {
+        Line::empty().text(b": names\n").print();
+        return;
+    }
+    Line::empty().text(b": no names\n").print();
+}
+
+fn names() {
+    show_names(b"four", b"d/i", b"s", b"d/m", b"d/o");
+    show_names(b"going on", b"i", b"m.rest", b"m", b"o");
+    show_names(b"no image", b"", b"s", b"m", b"o");
+    show_names(b"no session", b"i", b"", b"m", b"o");
+    show_names(b"no state", b"i", b"s", b"", b"o");
+    show_names(b"no output", b"d/i", b"s", b"d/m", b"d/");
+    show_names(b"image elsewhere", b"e/i", b"s", b"d/m", b"d/o");
+    show_names(b"output elsewhere", b"i", b"s", b"m", b"./o");
+    show_names(b"image is state", b"m", b"s", b"m", b"o");
+    show_names(b"image is output", b"i", b"s", b"m", b"i");
+    show_names(b"image is names", b"m.names", b"s", b"m", b"o");
+    show_names(b"output is rest", b"i", b"s", b"m", b"m.rest");
+    show_names(b"output is night", b"i", b"s", b"m", b"m.night");
+    show_names(b"output is done", b"i", b"s", b"m", b"m.done");
+    show_names(b"session is image", b"i", b"i", b"m", b"o");
+    show_names(b"session is state", b"i", b"m", b"m", b"o");
+    show_names(b"session is output", b"i", b"o", b"m", b"o");
+    show_names(b"session is names", b"i", b"m.names", b"m", b"o");
+}
+
+// Names as long as they may be, and a byte longer: a last part of 249, a path of 3,833.
+fn long_names() {
+    let part = [97u8; 249];
+    let longer = [97u8; 250];
+    show_names(b"part of 249", &part, b"s", b"m", b"o");
+    show_names(b"part of 250", &longer, b"s", b"m", b"o");
+    let mut image = [47u8; 3833];
+    image[3832] = 105;
+    let mut state = [47u8; 3833];
+    state[3832] = 109;
+    let mut output = [47u8; 3833];
+    output[3832] = 111;
+    show_names(b"path of 3833", &image, b"s", &state, &output);
+    let mut long = [47u8; 3834];
+    long[3832] = 105;
+    long[3833] = 105;
+    show_names(b"path of 3834", &long, b"s", &state, &output);
+}
+
 fn main() {
     recoveries();
+    stale();
     refusals();
     nights();
     places();
+    names();
+    long_names();
 }
