@@ -169,44 +169,56 @@ fn show_names(word: &[u8], image: &[u8], session: &[u8], state: &[u8], output: &
     Line::empty().text(b": no names\n").print();
 }
 
-fn names() {
-    show_names(b"four", b"d/i", b"s", b"d/m", b"d/o");
-    show_names(b"going on", b"i", b"m.rest", b"m", b"o");
-    show_names(b"no image", b"", b"s", b"m", b"o");
-    show_names(b"no session", b"i", b"", b"m", b"o");
-    show_names(b"no state", b"i", b"s", b"", b"o");
-    show_names(b"no output", b"d/i", b"s", b"d/m", b"d/");
-    show_names(b"image elsewhere", b"e/i", b"s", b"d/m", b"d/o");
-    show_names(b"output elsewhere", b"i", b"s", b"m", b"./o");
-    show_names(b"image is state", b"m", b"s", b"m", b"o");
-    show_names(b"image is output", b"i", b"s", b"m", b"i");
-    show_names(b"image is names", b"m.names", b"s", b"m", b"o");
-    show_names(b"output is rest", b"i", b"s", b"m", b"m.rest");
-    show_names(b"output is night", b"i", b"s", b"m", b"m.night");
-    show_names(b"output is done", b"i", b"s", b"m", b"m.done");
-    show_names(b"session is image", b"i", b"i", b"m", b"o");
-    show_names(b"session is state", b"i", b"m", b"m", b"o");
-    show_names(b"session is output", b"i", b"o", b"m", b"o");
-    show_names(b"session is names", b"i", b"m.names", b"m", b"o");
+// One name for a file and another text for each of the others.
+fn show_image(word: &[u8], image: &[u8]) {
+    show_names(word, image, b"s", b"m", b"o");
 }
 
-// Names as long as they may be, and a byte longer: a last part of 249, a path of 3,833.
-fn long_names() {
-    let part = [97u8; 249];
-    let longer = [97u8; 250];
-    show_names(b"part of 249", &part, b"s", b"m", b"o");
-    show_names(b"part of 250", &longer, b"s", b"m", b"o");
-    let mut image = [47u8; 3833];
-    image[3832] = 105;
-    let mut state = [47u8; 3833];
-    state[3832] = 109;
-    let mut output = [47u8; 3833];
-    output[3832] = 111;
-    show_names(b"path of 3833", &image, b"s", &state, &output);
-    let mut long = [47u8; 3834];
-    long[3832] = 105;
-    long[3833] = 105;
-    show_names(b"path of 3834", &long, b"s", &state, &output);
+fn show_session(word: &[u8], session: &[u8]) {
+    show_names(word, b"i", session, b"m", b"o");
+}
+
+fn show_output(word: &[u8], output: &[u8]) {
+    show_names(word, b"i", b"s", b"m", output);
+}
+
+fn images() {
+    show_image(b"image", b"i");
+    show_image(b"no image", b"");
+    show_image(b"image elsewhere", b"e/i");
+    show_image(b"image is state", b"m");
+    show_image(b"image is output", b"o");
+    show_image(b"image is names", b"m.names");
+}
+
+fn sessions() {
+    show_session(b"going on", b"m.rest");
+    show_session(b"no session", b"");
+    show_session(b"session is image", b"i");
+    show_session(b"session is state", b"m");
+    show_session(b"session is output", b"o");
+    show_session(b"session is names", b"m.names");
+}
+
+fn outputs() {
+    show_output(b"no output", b"");
+    show_output(b"output elsewhere", b"./o");
+    show_output(b"output is rest", b"m.rest");
+    show_output(b"output is night", b"m.night");
+    show_output(b"output is done", b"m.done");
+}
+
+fn folders() {
+    show_names(b"one folder", b"d/i", b"s", b"d/m", b"d/o");
+    show_names(b"a folder's name", b"d/i", b"s", b"d/m", b"d/");
+    show_names(b"no state", b"i", b"s", b"", b"o");
+}
+
+// A last part of 249 bytes, and one of 250: as long as it may be, and longer.
+fn long_parts() {
+    let part = [97u8; 250];
+    show_image(b"part of 249", &part[..249]);
+    show_image(b"part of 250", &part);
 }
 
 fn main() {
@@ -215,6 +227,9 @@ fn main() {
     refusals();
     nights();
     places();
-    names();
-    long_names();
+    images();
+    sessions();
+    outputs();
+    folders();
+    long_parts();
 }
