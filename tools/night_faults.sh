@@ -1,5 +1,6 @@
 #!/bin/bash
-# Faults at every system call of a night, of a first night and of a recovery; clean-ups that are killed; two nights at once. docs/NIGHT.md says what must hold.
+# Faults at every system call of a night, of a first night and of a recovery; clean-ups that are killed; two nights at once; a call that is held while
+# another night with other names commits. docs/NIGHT.md says what must hold.
 #   bash tools/night_faults.sh        some minutes; prints how many faults and how many bad, and each bad one; status 1 where one is bad
 # Needs strace, python3, x86-64, and `rt check night` done. It works in a fresh folder under TMPDIR.
 set -u
@@ -35,12 +36,13 @@ total=0 bad=0 stood=0 stuck=0
 wrong() { bad=$((bad + 1)); echo "bad: $*: $(tr '\n' ' ' <../out)"; }
 
 # what a fault has left, in d: one of two sets of files; where STATE.done stands, a call makes it the new one (a recovery may be stopped before its own
-# night). Then a whole night runs.
+# night). Then a whole night runs. `cleaned`: the call could remove what it made, so that a refusal leaves no STATE.night.
 judge() {
-    local old=$1 new=$2 what=$3
+    local old=$1 new=$2 what=$3 cleaned=${4:-}
     total=$((total + 1))
     if said 'night stop' && { ! same "$new" || [ -e state.done ] || [ -e state.night ]; }; then wrong "$what: told, not done"; return; fi
     [ ! -e state.night ] || stuck=$((stuck + 1))
+    if [ -n "$cleaned" ] && said '^refused' && [ ! -e state.done ] && [ -e state.night ]; then wrong "$what: STATE.night is left"; return; fi
     if [ -e state.done ]; then
         stood=$((stood + 1))
         rm -rf state.night && mkdir state.night
@@ -57,18 +59,19 @@ judge() {
 
 # every system call of a call from a set, killed and failed
 faults() {
-    local name=$1 from=$2 old=$3 new=$4 what syscall count k
+    local name=$1 from=$2 old=$3 new=$4 what syscall count k cleaned
     back "$from"; cd d || exit 2
     faulty
     said 'night stop' || { echo "no night from $from: $(cat ../out)"; exit 2; }
     sed -n 's/^\([a-z_0-9]*\)(.*/\1/p' ../log | grep -v 'execve\|exit_group' | sort | uniq -c >../calls
     while read -r count syscall; do
         for what in signal=KILL error=EIO error=ENOSPC error=EACCES error=EINTR; do
+            case $what,$syscall in signal=*|*,rename|*,unlink|*,rmdir) cleaned= ;; *) cleaned=yes ;; esac
             for k in $(seq 1 "$count"); do
                 cd ..; back "$from"; cd d || exit 2
                 faulty -e "trace=$syscall" -e "inject=$syscall:$what:when=$k"
                 grep -q 'INJECTED\|killed by SIGKILL' ../log || { wrong "$name $syscall $k: no fault"; continue; }
-                judge "$old" "$new" "$name $what $syscall $k"
+                judge "$old" "$new" "$name $what $syscall $k" $cleaned
             done
         done
     done <../calls
@@ -123,4 +126,21 @@ for k in $(seq 1 100); do
     cd ..
 done
 echo "two at once 100 bad $worse (the second refused $refused, followed $followed)"
-[ "$bad$worse" = 00 ]
+
+# The first call finds STATE.done and is held at its first rename; meanwhile the second, with other names, puts those files in place, runs, commits, and
+# is held after its commit (its sixth rename). Each night's files must come to its own places.
+back half; cd d || exit 2
+cp ../sets/two/image image2
+faulty -e trace=rename -e inject=rename:delay_enter=2000000:when=1 & a=$!
+sleep 0.5
+strace -o ../held -e trace=rename -e inject=rename:delay_exit=3000000:when=6 \
+    "${words[@]}" "$root/target/bin/night" image2 state.rest 14000 61440 state output2 >../second
+wait $a
+mixed=0
+for f in 'image two image' 'output two output' 'image2 three image' 'output2 three output' 'state three state' 'state.rest three state.rest'; do
+    read -r here set there <<<"$f"
+    cmp -s "$here" "../sets/$set/$there" || { mixed=1; echo "bad: a held call: $here is not the one of night $set"; }
+done
+{ said '^refused 34' && grep -q '^night stop' ../second && [ ! -e state.done ] && [ ! -e state.night ]; } || { mixed=1; echo "bad: a held call: $(cat ../out ../second)"; }
+echo "a held call: bad $mixed"
+[ "$bad$worse$mixed" = 000 ]
