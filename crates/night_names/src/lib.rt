@@ -9,7 +9,7 @@ ghost use Rattle.night_names.specs.Names.{namesOf, areRecorded, imagePla
 ghost use Rattle.night_names.specs.Names.{namesOf, areRecorded, imagePlace, outputPlace};
 
 // Whether two texts are the same.
-pub fn same(a: &[u8], b: &[u8]) -> bool
+fn same(a: &[u8], b: &[u8]) -> bool
     ensures { λ r. ⌜ r ≡ sameOf (now (a .entry)) (now (b .entry)) ⌝ }
 {
     if a.len() != b.len() {
