@@ -5,8 +5,8 @@ use mathlib.Core.List.{List}
 use Prim.Native.Nat.{ℕ}
 
 -- where the entry of a new file is: nowhere, in the work folder (STATE.night, after the commit STATE.done), at its place
-pub data Spot : Type 0 where
-  nowhere work place : Spot
+pub data Site : Type 0 where
+  nowhere work place : Site
 
 -- what a new file holds: any part of its bytes, or all of them
 pub data Text : Type 0 where
@@ -31,8 +31,8 @@ pub data Got : Type 0 where
 pub record File : Type 0 where
   pub step : Step
   pub got : Got
-  pub spot : Spot
-  pub spot-down : Spot
+  pub site : Site
+  pub site-down : Site
   pub text : Text
   pub text-down : Text
 
@@ -46,7 +46,7 @@ pub record Home : Type 0 where
   pub done-down : Bool
   pub past : Bool
 
-pub record World : Type 0 where
+pub record Disk : Type 0 where
   pub home : Home
   pub files : List File
 
@@ -72,12 +72,12 @@ pub data Event : Type 0 where
   cut : Event  -- the power fails: what the device has is all that is left
   land-night : Event  -- the device gets the entry STATE.night as it is, unasked
   land-done : Event  -- .. the entry STATE.done
-  land-spot : Event  -- .. where a file's entry is (a rename is one item: it lands whole)
+  land-site : Event  -- .. where a file's entry is (a rename is one item: it lands whole)
   land-text : Event  -- .. a file's bytes
   land-half : Event  -- a rename lands by half: the entry in STATE.done is gone, the place has the old file. EXCLUDED by assumption
 
 -- an event, and the files that it is about, by number (all of them where a folder is brought to the device that holds all places)
-pub data Act : Type 0 where
-  _at_ : Event → (ℕ → Bool) → Act
+pub data Deed : Type 0 where
+  _at_ : Event → (ℕ → Bool) → Deed
 
 infix 80 _at_

@@ -6,7 +6,7 @@ use Rattle.night_folders.specs.Folders.{Step, fresh, made, written, save
 use Rattle.night_folders.specs.Folders.{undoing, Help, off, looking, putting, leaving, Got, todo, tried, sure, File, Home, Event, create, write}
 use Rattle.night_folders.specs.Folders.{fsync-file, fsync-night, commit, call, fsync-commit, put, fsync-place, rmdir-done, fsync-last, fail, unlink}
 use Rattle.night_folders.specs.Folders.{rmdir-night, kill, also-call, also-fsync, also-put, also-place, also-rmdir, also-last, also-kill, cut}
-use Rattle.night_folders.specs.Folders.{land-night, land-done, land-spot, land-text, land-half}
+use Rattle.night_folders.specs.Folders.{land-night, land-done, land-site, land-text, land-half}
 
 abbrev pub phaseNo : Phase → ℕ
 phaseNo idle = 0
@@ -75,7 +75,7 @@ may also-kill h = true
 may cut h = true
 may land-night h = true
 may land-done h = true
-may land-spot h = true
+may land-site h = true
 may land-text h = true
 may land-half h = false
 
@@ -110,6 +110,6 @@ asks also-kill mine f = true
 asks cut mine f = true
 asks land-night mine f = true
 asks land-done mine f = true
-asks land-spot mine f = true
+asks land-site mine f = true
 asks land-text mine f = true
 asks land-half mine f = true
