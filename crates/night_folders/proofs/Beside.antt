@@ -11,7 +11,7 @@ use Rattle.night_folders.specs.Folders.{fail, unlink, rmdir-night, kill,
 use Rattle.night_folders.specs.Folders.{land-night, land-done, land-site, land-text, land-half, Deed, _at_}
 use Rattle.night_folders.specs.Rules.{may, asks}
 use Rattle.night_folders.specs.Fields.{withPhase, withStep}
-use Rattle.night_folders.specs.Effects.{turn, does, tests, changes, allowed, forced, step-of, after, lawful}
+use Rattle.night_folders.specs.Effects.{turn, does, tests, changes, allowed, forced, step-of, afterwards, lawful}
 use Rattle.night_folders.proofs.Every.{first, second, both}
 
 -- an operation of the running call; its first, which finds STATE.done, goes by what it finds
@@ -299,7 +299,7 @@ abbrev pub outers : List Deed → Bool
 outers [] = true
 outers (v at k ∷ vs) = outer v && outers vs
 
-after-beside : (vs : List Deed) → T (outers vs) → (w u : Disk) → Same w u → Same w (after vs u)
+after-beside : (vs : List Deed) → T (outers vs) → (w u : Disk) → Same w u → Same w (afterwards vs u)
 after-beside [] t w u s = s
 after-beside (v at k ∷ vs) t w u s =
     after-beside vs (second (outer v) (outers vs) t) w (step-of (v at k) u) (step-beside v k (first (outer v) (outers vs) t) w u s)
@@ -339,14 +339,14 @@ inners (e at m ∷ as′) = inner e && inners as′
 -- every operation of a list can be when its turn comes, with these events before each
 abbrev pub lawfulBeside : (ℕ → List Deed) → List Deed → Disk → Bool
 lawfulBeside others [] w = true
-lawfulBeside others (a ∷ as′) w = allowed a (after (others 0) w) && lawfulBeside (λ j. others (suc j)) as′ (step-of a (after (others 0) w))
+lawfulBeside others (a ∷ as′) w = allowed a (afterwards (others 0) w) && lawfulBeside (λ j. others (suc j)) as′ (step-of a (afterwards (others 0) w))
 
 beside : (as′ : List Deed) → T (inners as′) → (others : ℕ → List Deed) → ((j : ℕ) → T (outers (others j))) → (w u : Disk) → Same w u
     → T (lawful as′ w) → T (lawfulBeside others as′ u)
 beside [] i others o w u s l = tt
 beside (e at m ∷ as′) i others o w u s l =
     let t = first (inner e) (inners as′) i in
-    let v : Disk = after (others 0) u in
+    let v : Disk = afterwards (others 0) u in
     let s′ : Same w v = after-beside (others 0) (o 0) w u s in
     let p = first (allowed (e at m) w) (lawful as′ (step-of (e at m) w)) l in
     both (allowed (e at m) v) (lawfulBeside (λ j. others (suc j)) as′ (step-of (e at m) v)) (subst T (allowed-by e m t w v s′) p)

@@ -9,7 +9,7 @@ use Rattle.night_folders.specs.Folders.{Site, nowhere, work, place, Text
 use Rattle.night_folders.specs.Folders.{create, write, fsync-file, fsync-night, commit, call, fsync-commit, put, fsync-place, rmdir-done, fsync-last, fail, unlink, rmdir-night, kill}
 use Rattle.night_folders.specs.Folders.{also-call, also-fsync, also-put, also-place, also-rmdir, also-last, also-kill, cut, land-night, land-done, land-site, land-text, land-half, Deed, _at_}
 use Rattle.night_folders.specs.Rules.{isHelp, isPhase, may, asks}
-use Rattle.night_folders.specs.Effects.{turn, tests, allowed, forced, step-of, after, start, Shown, old, new, torn, showing, Shows, All, outcome}
+use Rattle.night_folders.specs.Effects.{turn, tests, allowed, forced, step-of, afterwards, start, Shown, old, new, torn, showing, Shows, All, outcome}
 use Rattle.night_folders.proofs.Every.{first, second, both, implies, meet, eachHome, at-home, eachBool, at-bool, eachSite, at-site, eachText, at-text}
 use Rattle.night_folders.proofs.Ends.{start-sized, after-sized, cut-then-call, kill-then-call, cut-ends, kill-ends}
 use Rattle.night_folders.proofs.Law.{sound, fits, lies, lies-at, allFit, after-keeps, start-good, isSite, isWhole, tells}
@@ -48,9 +48,9 @@ all-show h (f ∷ fs) n t = (
 
 -- 1. Whenever STATE.done does not stand, the files are all old or all new, to every reader and on the device: new if STATE.done
 -- has reached the device, else old.
-pub one-commit : (n : ℕ) (acts : List Deed) → T (not (after acts (start n) .home .done))
-    → All (Shows (outcome (after acts (start n) .home))) (after acts (start n) .files)
-one-commit n acts q = all-show (after acts (start n) .home) (after acts (start n) .files) q (after-keeps acts (start n) (start-good n) .1)
+pub one-commit : (n : ℕ) (acts : List Deed) → T (not (afterwards acts (start n) .home .done))
+    → All (Shows (outcome (afterwards acts (start n) .home))) (afterwards acts (start n) .files)
+one-commit n acts q = all-show (afterwards acts (start n) .home) (afterwards acts (start n) .files) q (after-keeps acts (start n) (start-good n) .1)
 
 -- STATE.done has reached the device: nothing takes that back
 past-tests : (e : Event) (n d : Bool) → T (eachHome (λ h. implies (h .past) (turn e h .past)) n d)
@@ -90,22 +90,22 @@ step-past (e at m) w p = go (allowed (e at m) w)
     go false = p
     go true = meet (w .home .past) (turn e (w .home) .past) (at-home (λ h. implies (h .past) (turn e h .past)) (past-tests e) (w .home)) p
 
-after-past : (as′ : List Deed) (w : Disk) → T (w .home .past) → T (after as′ w .home .past)
+after-past : (as′ : List Deed) (w : Disk) → T (w .home .past) → T (afterwards as′ w .home .past)
 after-past [] w p = p
 after-past (a ∷ as′) w p = after-past as′ (step-of a w) (step-past a w p)
 
 -- 2. Whatever happened, a power cut, or a kill, and one call left to itself: the files are all as before the night, or all as after it ..
-pub whole-after-cut : (n : ℕ) (acts : List Deed) → let z = after (cut-then-call n) (after acts (start n)) in All (Shows (outcome (z .home))) (z .files)
+pub whole-after-cut : (n : ℕ) (acts : List Deed) → let z = afterwards (cut-then-call n) (afterwards acts (start n)) in All (Shows (outcome (z .home))) (z .files)
 whole-after-cut n acts =
-    let w = after acts (start n) in
-    let z = after (cut-then-call n) w in
+    let w = afterwards acts (start n) in
+    let z = afterwards (cut-then-call n) w in
     all-show (z .home) (z .files) (cut-ends n w (after-sized n acts (start n) (start-sized n)))
     (after-keeps (cut-then-call n) w (after-keeps acts (start n) (start-good n)) .1)
 
-pub whole-after-kill : (n : ℕ) (acts : List Deed) → let z = after (kill-then-call n) (after acts (start n)) in All (Shows (outcome (z .home))) (z .files)
+pub whole-after-kill : (n : ℕ) (acts : List Deed) → let z = afterwards (kill-then-call n) (afterwards acts (start n)) in All (Shows (outcome (z .home))) (z .files)
 whole-after-kill n acts =
-    let w = after acts (start n) in
-    let z = after (kill-then-call n) w in
+    let w = afterwards acts (start n) in
+    let z = afterwards (kill-then-call n) w in
     all-show (z .home) (z .files) (kill-ends n w (after-sized n acts (start n) (start-sized n)))
     (after-keeps (kill-then-call n) w (after-keeps acts (start n) (start-good n)) .1)
 
@@ -114,17 +114,17 @@ show-new : (p : Bool) (fs : List File) → T p → All (Shows (cond p new old)) 
 show-new true fs t s = s
 show-new false fs t s = absurd t
 
-pub new-after-cut : (n : ℕ) (acts : List Deed) → T (after acts (start n) .home .past)
-    → All (Shows new) (after (cut-then-call n) (after acts (start n)) .files)
+pub new-after-cut : (n : ℕ) (acts : List Deed) → T (afterwards acts (start n) .home .past)
+    → All (Shows new) (afterwards (cut-then-call n) (afterwards acts (start n)) .files)
 new-after-cut n acts p =
-    let z = after (cut-then-call n) (after acts (start n)) in
-    show-new (z .home .past) (z .files) (after-past (cut-then-call n) (after acts (start n)) p) (whole-after-cut n acts)
+    let z = afterwards (cut-then-call n) (afterwards acts (start n)) in
+    show-new (z .home .past) (z .files) (after-past (cut-then-call n) (afterwards acts (start n)) p) (whole-after-cut n acts)
 
-pub new-after-kill : (n : ℕ) (acts : List Deed) → T (after acts (start n) .home .past)
-    → All (Shows new) (after (kill-then-call n) (after acts (start n)) .files)
+pub new-after-kill : (n : ℕ) (acts : List Deed) → T (afterwards acts (start n) .home .past)
+    → All (Shows new) (afterwards (kill-then-call n) (afterwards acts (start n)) .files)
 new-after-kill n acts p =
-    let z = after (kill-then-call n) (after acts (start n)) in
-    show-new (z .home .past) (z .files) (after-past (kill-then-call n) (after acts (start n)) p) (whole-after-kill n acts)
+    let z = afterwards (kill-then-call n) (afterwards acts (start n)) in
+    show-new (z .home .past) (z .files) (after-past (kill-then-call n) (afterwards acts (start n)) p) (whole-after-kill n acts)
 
 -- 4. At all times and on the device, each file by itself is the old one or the whole new one
 abbrev intact : Shown → Bool
@@ -155,8 +155,8 @@ all-intact h (f ∷ fs) t = (
   all-intact h fs (second (fits h f) (allFit h fs) t),
 )
 
-pub never-torn : (n : ℕ) (acts : List Deed) → All Intact (after acts (start n) .files)
-never-torn n acts = all-intact (after acts (start n) .home) (after acts (start n) .files) (after-keeps acts (start n) (start-good n) .1)
+pub never-torn : (n : ℕ) (acts : List Deed) → All Intact (afterwards acts (start n) .files)
+never-torn n acts = all-intact (afterwards acts (start n) .home) (afterwards acts (start n) .files) (after-keeps acts (start n) (start-good n) .1)
 
 -- 5. An operation before the commit reports failure: the files are the old ones, whatever happens from then on
 abbrev lost : Home → Bool
@@ -201,7 +201,7 @@ step-lost (e at m) w l = go (allowed (e at m) w) (λ t. t)
         (at-home (λ h. implies (lost h && may e h) (lost (turn e h))) (lost-tests e) (w .home))
         (both (lost (w .home)) (may e (w .home)) l (first (may e (w .home)) (tests (asks e) m (w .files)) (k tt)))
 
-after-lost : (as′ : List Deed) (w : Disk) → T (lost (w .home)) → T (lost (after as′ w .home))
+after-lost : (as′ : List Deed) (w : Disk) → T (lost (w .home)) → T (lost (afterwards as′ w .home))
 after-lost [] w l = l
 after-lost (a ∷ as′) w l = after-lost as′ (step-of a w) (step-lost a w l)
 
@@ -212,11 +212,11 @@ show-old : (p : Bool) (fs : List File) → T (not p) → All (Shows (cond p new 
 show-old false fs t s = s
 show-old true fs t s = absurd t
 
-pub old-after-failure : (n : ℕ) (acts later : List Deed) → T (isPhase undoing (after acts (start n) .home))
-    → All (Shows old) (after later (after acts (start n)) .files)
+pub old-after-failure : (n : ℕ) (acts later : List Deed) → T (isPhase undoing (afterwards acts (start n) .home))
+    → All (Shows old) (afterwards later (afterwards acts (start n)) .files)
 old-after-failure n acts later u =
-    let w = after acts (start n) in
-    let z = after later w in
+    let w = afterwards acts (start n) in
+    let z = afterwards later w in
     let g = after-keeps acts (start n) (start-good n) in
     let l = meet (sound (w .home) && isPhase undoing (w .home)) (lost (w .home))
     (at-home (λ h. implies (sound h && isPhase undoing h) (lost h)) undoing-lost (w .home)) (both (sound (w .home)) (isPhase undoing (w .home)) (g .0) u) in

@@ -7,7 +7,7 @@ use lib.Dec.{T}
 use Rattle.night_folders.specs.Folders.{Step, saved, moved, idle, placing, clearing, Help, off, File, Home, Disk, Event, call, fsync-commit}
 use Rattle.night_folders.specs.Folders.{put, fsync-place, rmdir-done, fsync-last, kill, also-kill, cut, Deed, _at_}
 use Rattle.night_folders.specs.Rules.{isStep, may, asks}
-use Rattle.night_folders.specs.Effects.{all, does, tests, changes, allowed, forced, step-of, after, newcomers, one, none, eachFrom, recovery}
+use Rattle.night_folders.specs.Effects.{all, does, tests, changes, allowed, forced, step-of, afterwards, newcomers, one, none, eachFrom, recovery}
 use Rattle.night_folders.proofs.Every.{homeOf, first, second, both}
 
 -- n files stay n files
@@ -34,7 +34,7 @@ step-sized n (e at m) w s = go (allowed (e at m) w)
     go false = s
     go true = changes-sized n (does e) m (w .files) s
 
-pub after-sized : (n : ℕ) (as′ : List Deed) (w : Disk) → Sized n (w .files) → Sized n (after as′ w .files)
+pub after-sized : (n : ℕ) (as′ : List Deed) (w : Disk) → Sized n (w .files) → Sized n (afterwards as′ w .files)
 after-sized n [] w s = s
 after-sized n (a ∷ as′) w s = after-sized n as′ (step-of a w) (step-sized n a w s)
 
@@ -99,11 +99,11 @@ turn-does (suc i) (f ∷ fs) h =
     (turn-does i fs (second (isStep moved f) (halfway i saved moved fs) h))
 
 sweep : (Q : Disk → Type 0) (n : ℕ) (h : Home) (r : List Deed) → T (may put h) → (k i : ℕ)
-    → ((fs : List File) → Sized n fs → T (halfway (up i k) saved moved fs) → Q (after r (at-disk h fs)))
-    → (fs : List File) → Sized n fs → T (halfway i saved moved fs) → Q (after (eachFrom i k put r) (at-disk h fs))
+    → ((fs : List File) → Sized n fs → T (halfway (up i k) saved moved fs) → Q (afterwards r (at-disk h fs)))
+    → (fs : List File) → Sized n fs → T (halfway i saved moved fs) → Q (afterwards (eachFrom i k put r) (at-disk h fs))
 sweep Q n h r m zero i q fs z w = q fs z w
 sweep Q n h r m (suc k) i q fs z w =
-    done-step (λ x. Q (after (eachFrom (suc i) k put r) x)) (allowed (put at one i) (at-disk h fs)) (forced (put at one i) (at-disk h fs)) (at-disk h fs)
+    done-step (λ x. Q (afterwards (eachFrom (suc i) k put r) x)) (allowed (put at one i) (at-disk h fs)) (forced (put at one i) (at-disk h fs)) (at-disk h fs)
     (both (may put h) (tests (asks put) (one i) fs) m (turn-asks i fs w))
     (sweep Q n h r m k (suc i) q (changes (does put) (one i) fs) (changes-sized n (does put) (one i) fs z) (turn-does i fs w))
 
@@ -137,38 +137,38 @@ last = fsync-place at all ∷ rmdir-done at none ∷ fsync-last at none ∷ []
 
 -- from where the files are to be put in place
 placing-ends : (n : ℕ) (g : Help) (x y : Bool) (fs : List File) → Sized n fs → T (steps saved fs)
-    → Gone (after (eachFrom 0 n put last) (at-disk (homeOf placing g x x true true y) fs))
+    → Gone (afterwards (eachFrom 0 n put last) (at-disk (homeOf placing g x x true true y) fs))
 placing-ends n g x y fs z w =
     sweep Gone n h last tt n 0 (λ gs zg wg. synced gs (all-way n saved moved gs zg (subst (λ i. T (halfway i saved moved gs)) (up-zero n) wg))) fs z w
   where
     h : Home
     h = homeOf placing g x x true true y
 
-    last-gone : (ds : List File) → Gone (after (fsync-last at none ∷ []) (at-disk (homeOf clearing g x x false true y) ds))
+    last-gone : (ds : List File) → Gone (afterwards (fsync-last at none ∷ []) (at-disk (homeOf clearing g x x false true y) ds))
     last-gone ds =
         let v : Disk = at-disk (homeOf clearing g x x false true y) ds in
         done-step Gone (allowed (fsync-last at none) v) (forced (fsync-last at none) v) v (asks-none fsync-last (λ f. tt) ds) tt
 
-    synced : (gs : List File) → T (steps moved gs) → Gone (after last (at-disk (homeOf placing g x x true true y) gs))
+    synced : (gs : List File) → T (steps moved gs) → Gone (afterwards last (at-disk (homeOf placing g x x true true y) gs))
     synced gs m =
         let v : Disk = at-disk (homeOf placing g x x true true y) gs in
         let ds : List File = changes (does fsync-place) all gs in
         let u : Disk = at-disk (homeOf placing g x x true true y) ds in
-        done-step (λ k. Gone (after (rmdir-done at none ∷ fsync-last at none ∷ []) k)) (allowed (fsync-place at all) v) u v (all-moved gs m)
-        (done-step (λ k. Gone (after (fsync-last at none ∷ []) k)) (allowed (rmdir-done at none) u) (forced (rmdir-done at none) u) u (all-down gs)
+        done-step (λ k. Gone (afterwards (rmdir-done at none ∷ fsync-last at none ∷ []) k)) (allowed (fsync-place at all) v) u v (all-moved gs m)
+        (done-step (λ k. Gone (afterwards (fsync-last at none ∷ []) k)) (allowed (rmdir-done at none) u) (forced (rmdir-done at none) u) u (all-down gs)
         (last-gone (changes (does rmdir-done) none ds)))
 
 -- where STATE.done does not stand, the operations are passed over
 abbrev to-idle : Home → Home
 to-idle h = homeOf idle (h .help) (h .night) (h .night-down) false (h .done-down) (h .past)
 
-passed-put : (k i : ℕ) (h : Home) (fs : List File) (r : List Deed) → Gone (after r (at-disk (to-idle h) fs)) → Gone (after (eachFrom i k put r) (at-disk (to-idle h) fs))
+passed-put : (k i : ℕ) (h : Home) (fs : List File) (r : List Deed) → Gone (afterwards r (at-disk (to-idle h) fs)) → Gone (afterwards (eachFrom i k put r) (at-disk (to-idle h) fs))
 passed-put zero i h fs r q = q
 passed-put (suc k) i h fs r q = passed-put k (suc i) h fs r q
 
 -- a call that is left to itself
 call-ends : (n : ℕ) (g : Help) (x y q r p : Bool) (fs : List File) → Sized n fs
-    → Gone (after (recovery n) (at-disk (homeOf idle g x y q r p) fs))
+    → Gone (afterwards (recovery n) (at-disk (homeOf idle g x y q r p) fs))
 call-ends n g x y false r p fs z =
     let h : Home = homeOf idle g x y false r p in
     passed-put n 0 h fs last tt
@@ -177,8 +177,8 @@ call-ends n g x y true r p fs z =
     let ops : List Deed = eachFrom 0 n put last in
     let cs : List File = changes (does call) none fs in
     let v : Disk = forced (call at none) (at-disk h fs) in
-    done-step (λ u. Gone (after (fsync-commit at none ∷ ops) u)) (allowed (call at none) (at-disk h fs)) v (at-disk h fs) (asks-none call (λ f. tt) fs)
-    (done-step (λ u. Gone (after ops u)) (allowed (fsync-commit at none) v) (forced (fsync-commit at none) v) v (asks-none fsync-commit (λ f. tt) cs)
+    done-step (λ u. Gone (afterwards (fsync-commit at none ∷ ops) u)) (allowed (call at none) (at-disk h fs)) v (at-disk h fs) (asks-none call (λ f. tt) fs)
+    (done-step (λ u. Gone (afterwards ops u)) (allowed (fsync-commit at none) v) (forced (fsync-commit at none) v) v (asks-none fsync-commit (λ f. tt) cs)
     (placing-ends n g x (p || true) (changes (does fsync-commit) none cs)
     (changes-sized n (does fsync-commit) none cs (changes-sized n (does call) none fs z))
     (subst (λ gs. T (steps saved gs)) (sym (same-files cs)) (all-saved fs))))
@@ -190,18 +190,18 @@ cut-then-call n = cut at none ∷ recovery n
 abbrev pub kill-then-call : ℕ → List Deed
 kill-then-call n = kill at none ∷ also-kill at none ∷ recovery n
 
-pub cut-ends : (n : ℕ) (w : Disk) → Sized n (w .files) → Gone (after (cut-then-call n) w)
+pub cut-ends : (n : ℕ) (w : Disk) → Sized n (w .files) → Gone (afterwards (cut-then-call n) w)
 cut-ends n w z =
     let h = w .home in
-    done-step (λ u. Gone (after (recovery n) u)) (allowed (cut at none) w) (forced (cut at none) w) w (asks-none cut (λ f. tt) (w .files))
+    done-step (λ u. Gone (afterwards (recovery n) u)) (allowed (cut at none) w) (forced (cut at none) w) w (asks-none cut (λ f. tt) (w .files))
     (call-ends n off (h .night-down) (h .night-down) (h .done-down) (h .done-down) (h .past) (changes (does cut) none (w .files))
     (changes-sized n (does cut) none (w .files) z))
 
-pub kill-ends : (n : ℕ) (w : Disk) → Sized n (w .files) → Gone (after (kill-then-call n) w)
+pub kill-ends : (n : ℕ) (w : Disk) → Sized n (w .files) → Gone (afterwards (kill-then-call n) w)
 kill-ends n w z =
     let h = w .home in
     let v : Disk = forced (kill at none) w in
-    done-step (λ u. Gone (after (also-kill at none ∷ recovery n) u)) (allowed (kill at none) w) v w (asks-none kill (λ f. tt) (w .files))
-    (done-step (λ u. Gone (after (recovery n) u)) (allowed (also-kill at none) v) (forced (also-kill at none) v) v (asks-none also-kill (λ f. tt) (v .files))
+    done-step (λ u. Gone (afterwards (also-kill at none ∷ recovery n) u)) (allowed (kill at none) w) v w (asks-none kill (λ f. tt) (w .files))
+    (done-step (λ u. Gone (afterwards (recovery n) u)) (allowed (also-kill at none) v) (forced (also-kill at none) v) v (asks-none also-kill (λ f. tt) (v .files))
     (call-ends n off (h .night) (h .night-down) (h .done) (h .done-down) (h .past) (changes (does also-kill) none (v .files))
     (changes-sized n (does also-kill) none (v .files) (changes-sized n (does kill) none (w .files) z))))

@@ -4,7 +4,7 @@ use mathlib.Core.Path.{_≡_, refl}
 use mathlib.Core.List.{List, [], _∷_}
 use Rattle.night_folders.specs.Folders.{File, Disk, create, write, fsync-file, fsync-night, commit, call, fsync-commit, put, fsync-place, rmdir-done, fsync-last, fail}
 use Rattle.night_folders.specs.Folders.{unlink, kill, also-put, cut, land-done, land-site, land-half, Deed, _at_}
-use Rattle.night_folders.specs.Effects.{forced, after, start, Shown, old, new, torn, showing, one, none, writesFrom, recovery}
+use Rattle.night_folders.specs.Effects.{forced, afterwards, start, Shown, old, new, torn, showing, one, none, writesFrom, recovery}
 
 -- the operations, whether the rules allow them or not
 abbrev pub regardless : List Deed → Disk → Disk
@@ -16,7 +16,7 @@ seen [] = []
 seen (f ∷ fs) = showing (f .site) (f .text) ∷ seen fs
 
 abbrev pub shown-after : List Deed → List Shown
-shown-after as′ = seen (after (recovery 2) (regardless as′ (start 2)) .files)
+shown-after as′ = seen (afterwards (recovery 2) (regardless as′ (start 2)) .files)
 
 -- both files written, and brought to the device with the work folder
 abbrev pub prepared : List Deed → List Deed

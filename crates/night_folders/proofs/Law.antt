@@ -8,7 +8,7 @@ use Rattle.night_folders.specs.Folders.{undoing, off, looking, putting, 
 use Rattle.night_folders.specs.Folders.{fsync-commit, put, fsync-place, rmdir-done, fsync-last, fail, unlink, rmdir-night, kill, also-call, also-fsync, also-put, also-place, also-rmdir}
 use Rattle.night_folders.specs.Folders.{also-last, also-kill, cut, land-night, land-done, land-site, land-text, land-half, Deed, _at_}
 use Rattle.night_folders.specs.Rules.{isHelp, isGot, isPhase, isStep, may, asks}
-use Rattle.night_folders.specs.Effects.{turn, does, tests, changes, allowed, forced, step-of, after, newcomers, start}
+use Rattle.night_folders.specs.Effects.{turn, does, tests, changes, allowed, forced, step-of, afterwards, newcomers, start}
 use Rattle.night_folders.proofs.Every.{first, second, both, implies, meet, eachBool, at-bool, eachFile, at-file, eachHome, at-home}
 
 abbrev pub siteNo : Site → ℕ
@@ -205,7 +205,7 @@ step-keeps (e at m) w g = go (allowed (e at m) w) (λ t. t)
         let q = second (may e (w .home)) (tests (asks e) m (w .files)) (k tt) in
         (keep-home e (w .home) (g .0) y, keep-files e (w .home) m (w .files) (g .0) y (g .1) q)
 
-pub after-keeps : (as′ : List Deed) (w : Disk) → Good w → Good (after as′ w)
+pub after-keeps : (as′ : List Deed) (w : Disk) → Good w → Good (afterwards as′ w)
 after-keeps [] w g = g
 after-keeps (a ∷ as′) w g = after-keeps as′ (step-of a w) (step-keeps a w g)
 

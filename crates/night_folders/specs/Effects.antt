@@ -126,9 +126,9 @@ forced (e at m) w = record { home = turn e (w .home); files = changes (does e) m
 abbrev pub step-of : Deed → Disk → Disk
 step-of a w = cond (allowed a w) (forced a w) w
 
-abbrev pub after : List Deed → Disk → Disk
-after [] w = w
-after (a ∷ as′) w = after as′ (step-of a w)
+abbrev pub afterwards : List Deed → Disk → Disk
+afterwards [] w = w
+afterwards (a ∷ as′) w = afterwards as′ (step-of a w)
 
 -- every event of a list can be when its turn comes: none is passed over
 abbrev pub lawful : List Deed → Disk → Bool
@@ -144,11 +144,12 @@ abbrev pub newcomers : ℕ → List File
 newcomers zero = []
 newcomers (suc n) = newcomer ∷ newcomers n
 
-abbrev pub beginning : Home
-beginning = record { phase = making; help = off; night = true; night-down = true; done = false; done-down = false; past = false }
-
 abbrev pub start : ℕ → Disk
-start n = record { home = beginning; files = newcomers n }
+start n =
+    record {
+      home = record { phase = making; help = off; night = true; night-down = true; done = false; done-down = false; past = false };
+      files = newcomers n;
+    }
 
 -- what a place shows: to calls, and on the device
 pub data Shown : Type 0 where

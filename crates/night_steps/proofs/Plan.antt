@@ -9,7 +9,7 @@ use Rattle.night_steps.specs.declared.Op.the-variants.{Find, ReadNames, 
 use Rattle.night_steps.specs.declared.Op.the-variants.{Commit, SyncCommit, Put, SyncPlaces, RemoveDone, SyncLast, Placed, Refused, Stopped}
 use Rattle.night_steps.specs.Steps.{choice, afterMake, afterPut, nextOp, events, walk, end}
 use Rattle.night_folders.specs.Folders.{Deed, _at_, File, Help, Disk, idle}
-use Rattle.night_folders.specs.Effects.{start, nightly, recovery, lawful, after, step-of, allowed}
+use Rattle.night_folders.specs.Effects.{start, nightly, recovery, lawful, afterwards, step-of, allowed}
 use Rattle.night_folders.proofs.Beside.{inner, inners, outers, lawfulBeside, allowed-beside}
 use Rattle.night_folders.proofs.Every.{homeOf, first, second, both}
 
@@ -33,7 +33,7 @@ pub taken-in-order : (walk 4 well false Find ≡ []) × (end 4 well false Find �
 taken-in-order = (refl, refl)
 
 -- one list of events after another keeps to the rules if each does
-both-lawful : (as′ bs : List Deed) (w : Disk) → T (lawful as′ w) → T (lawful bs (after as′ w)) → T (lawful (as′ ++ bs) w)
+both-lawful : (as′ bs : List Deed) (w : Disk) → T (lawful as′ w) → T (lawful bs (afterwards as′ w)) → T (lawful (as′ ++ bs) w)
 both-lawful [] bs w s t = t
 both-lawful (a ∷ as′) bs w s t =
     both (allowed a w) (lawful (as′ ++ bs) (step-of a w)) (first (allowed a w) (lawful as′ (step-of a w)) s)
@@ -67,12 +67,12 @@ matters (Stopped k) = false
 abbrev keeps : ℕ → Bool → Op → Disk → Bool
 keeps zero own op w = true
 keeps (suc k) own op w =
-    cond (matters op) (lawful (events op false) w && keeps k own (nextOp op false own) (after (events op false) w)) true
-    && (lawful (events op true) w && keeps k own (nextOp op true own) (after (events op true) w))
+    cond (matters op) (lawful (events op false) w && keeps k own (nextOp op false own) (afterwards (events op false) w)) true
+    && (lawful (events op true) w && keeps k own (nextOp op true own) (afterwards (events op true) w))
 
 -- one operation, by its answer
 abbrev way : ℕ → Bool → Disk → Bool → Op → Bool
-way k own w b op = lawful (events op b) w && keeps k own (nextOp op b own) (after (events op b) w)
+way k own w b op = lawful (events op b) w && keeps k own (nextOp op b own) (afterwards (events op b) w)
 
 goes : (k : ℕ) (own : Bool) (w : Disk) (b : Bool) (op : Op) → T (keeps (suc k) own op w) → T (way k own w b op)
 goes k own w true op t = second (cond (matters op) (way k own w false op) true) (way k own w true op) t
@@ -103,7 +103,7 @@ either-way zero answers own op w t = tt
 either-way (suc k) answers own op w t =
     let s = goes k own w (answers 0) op t in
     let m : Op = nextOp op (answers 0) own in
-    let v : Disk = after (events op (answers 0)) w in
+    let v : Disk = afterwards (events op (answers 0)) w in
     both-lawful (events op (answers 0)) (walk k (λ j. answers (suc j)) own m) w (first (lawful (events op (answers 0)) w) (keeps k own m v) s)
     (either-way k (λ j. answers (suc j)) own m v (second (lawful (events op (answers 0)) w) (keeps k own m v) s))
 
@@ -114,7 +114,7 @@ night-lawful answers = either-way 20 answers true Run (start 5) tt
 -- and those of a call that found STATE.done, until its own night is to run, whatever a crash has left of the files
 abbrev found : Help → Bool → Bool → Bool → Bool → File → File → File → File → File → Disk
 found g x y d p f₀ f₁ f₂ f₃ f₄ =
-    after (events Find false) (record { home = homeOf idle g x y true d p; files = f₀ ∷ f₁ ∷ f₂ ∷ f₃ ∷ f₄ ∷ [] })
+    afterwards (events Find false) (record { home = homeOf idle g x y true d p; files = f₀ ∷ f₁ ∷ f₂ ∷ f₃ ∷ f₄ ∷ [] })
 
 pub recovery-lawful : (answers : ℕ → Bool) (g : Help) (x y d p : Bool) (f₀ f₁ f₂ f₃ f₄ : File)
     → T (lawful (walk 13 answers false ReadNames) (found g x y d p f₀ f₁ f₂ f₃ f₄))
