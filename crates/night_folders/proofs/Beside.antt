@@ -6,7 +6,7 @@ use mathlib.Core.List.{List, [], _∷_}
 use Prim.Native.Nat.{ℕ, suc}
 use lib.Dec.{T}
 use Rattle.night_folders.specs.Folders.{File, Home, Disk}
-use Rattle.night_folders.specs.Folders.{Event, create, write, fsync-file, fsync-night, commit, call, fsync-commit, put, fsync-place, rmdir-done, fsync-last}
+use Rattle.night_folders.specs.Folders.{Happening, create, write, fsync-file, fsync-night, commit, call, fsync-commit, put, fsync-place, rmdir-done, fsync-last}
 use Rattle.night_folders.specs.Folders.{fail, unlink, rmdir-night, kill, also-call, also-fsync, also-put, also-place, also-rmdir, also-last, also-kill, cut}
 use Rattle.night_folders.specs.Folders.{land-night, land-done, land-site, land-text, land-half, Deed, _at_}
 use Rattle.night_folders.specs.Rules.{may, asks}
@@ -15,7 +15,7 @@ use Rattle.night_folders.specs.Effects.{turn, does, tests, changes, allo
 use Rattle.night_folders.proofs.Every.{first, second, both}
 
 -- an operation of the running call; its first, which finds STATE.done, goes by what it finds
-abbrev pub inner : Event → Bool
+abbrev pub inner : Happening → Bool
 inner create = true
 inner write = true
 inner fsync-file = true
@@ -46,7 +46,7 @@ inner land-text = false
 inner land-half = false
 
 -- what happens beside it, and is no power cut
-abbrev pub outer : Event → Bool
+abbrev pub outer : Happening → Bool
 outer create = false
 outer write = false
 outer fsync-file = false
@@ -90,7 +90,7 @@ same-refl : (fs : List File) → Alike fs fs
 same-refl [] = tt
 same-refl (f ∷ fs) = (refl, same-refl fs)
 
-phase-kept : (v : Event) → T (outer v) → (h : Home) → turn v h .phase ≡ h .phase
+phase-kept : (v : Happening) → T (outer v) → (h : Home) → turn v h .phase ≡ h .phase
 phase-kept create t h = absurd t
 phase-kept write t h = absurd t
 phase-kept fsync-file t h = absurd t
@@ -120,7 +120,7 @@ phase-kept land-site t h = refl
 phase-kept land-text t h = refl
 phase-kept land-half t h = refl
 
-step-kept : (v : Event) → T (outer v) → (b : Bool) (f : File) → does v b f .step ≡ f .step
+step-kept : (v : Happening) → T (outer v) → (b : Bool) (f : File) → does v b f .step ≡ f .step
 step-kept create t b f = absurd t
 step-kept write t b f = absurd t
 step-kept fsync-file t b f = absurd t
@@ -155,7 +155,7 @@ step-kept land-text t false f = refl
 step-kept land-half t true f = refl
 step-kept land-half t false f = refl
 
-may-by : (e : Event) → T (inner e) → (g h : Home) → g .phase ≡ h .phase → may e g ≡ may e h
+may-by : (e : Happening) → T (inner e) → (g h : Home) → g .phase ≡ h .phase → may e g ≡ may e h
 may-by create t g h q = ap (λ p. may create (withPhase p g)) q
 may-by write t g h q = ap (λ p. may write (withPhase p g)) q
 may-by fsync-file t g h q = ap (λ p. may fsync-file (withPhase p g)) q
@@ -185,7 +185,7 @@ may-by land-site t g h q = absurd t
 may-by land-text t g h q = absurd t
 may-by land-half t g h q = absurd t
 
-asks-by : (e : Event) → T (inner e) → (b : Bool) (f g : File) → f .step ≡ g .step → asks e b f ≡ asks e b g
+asks-by : (e : Happening) → T (inner e) → (b : Bool) (f g : File) → f .step ≡ g .step → asks e b f ≡ asks e b g
 asks-by create t b f g q = ap (λ s. asks create b (withStep s f)) q
 asks-by write t b f g q = ap (λ s. asks write b (withStep s f)) q
 asks-by fsync-file t b f g q = ap (λ s. asks fsync-file b (withStep s f)) q
@@ -215,7 +215,7 @@ asks-by land-site t b f g q = absurd t
 asks-by land-text t b f g q = absurd t
 asks-by land-half t b f g q = absurd t
 
-turn-by : (e : Event) → T (inner e) → (g h : Home) → g .phase ≡ h .phase → turn e g .phase ≡ turn e h .phase
+turn-by : (e : Happening) → T (inner e) → (g h : Home) → g .phase ≡ h .phase → turn e g .phase ≡ turn e h .phase
 turn-by create t g h q = q
 turn-by write t g h q = q
 turn-by fsync-file t g h q = q
@@ -245,7 +245,7 @@ turn-by land-site t g h q = absurd t
 turn-by land-text t g h q = absurd t
 turn-by land-half t g h q = absurd t
 
-does-by : (e : Event) → T (inner e) → (b : Bool) (f g : File) → f .step ≡ g .step → does e b f .step ≡ does e b g .step
+does-by : (e : Happening) → T (inner e) → (b : Bool) (f g : File) → f .step ≡ g .step → does e b f .step ≡ does e b g .step
 does-by create t true f g q = refl
 does-by create t false f g q = q
 does-by write t true f g q = refl
@@ -282,13 +282,13 @@ does-by land-text t b f g q = absurd t
 does-by land-half t b f g q = absurd t
 
 -- what happens beside the call leaves its memory
-files-kept : (v : Event) → T (outer v) → (k : ℕ → Bool) (fs gs : List File) → Alike fs gs → Alike fs (changes (does v) k gs)
+files-kept : (v : Happening) → T (outer v) → (k : ℕ → Bool) (fs gs : List File) → Alike fs gs → Alike fs (changes (does v) k gs)
 files-kept v t k [] [] a = tt
 files-kept v t k [] (g ∷ gs) a = absurd a
 files-kept v t k (f ∷ fs) [] a = absurd a
 files-kept v t k (f ∷ fs) (g ∷ gs) a = (a .0 ∙ sym (step-kept v t (k 0) g), files-kept v t (λ j. k (suc j)) fs gs (a .1))
 
-step-beside : (v : Event) (k : ℕ → Bool) → T (outer v) → (w u : Disk) → Same w u → Same w (step-of (v at k) u)
+step-beside : (v : Happening) (k : ℕ → Bool) → T (outer v) → (w u : Disk) → Same w u → Same w (step-of (v at k) u)
 step-beside v k t w u s = go (allowed (v at k) u)
   where
     go : (b : Bool) → Same w (cond b (forced (v at k) u) u)
@@ -305,7 +305,7 @@ after-beside (v at k ∷ vs) t w u s =
     after-beside vs (second (outer v) (outers vs) t) w (step-of (v at k) u) (step-beside v k (first (outer v) (outers vs) t) w u s)
 
 -- the call may do the same, and remembers the same after it
-tests-by : (e : Event) → T (inner e) → (m : ℕ → Bool) (fs gs : List File) → Alike fs gs → tests (asks e) m fs ≡ tests (asks e) m gs
+tests-by : (e : Happening) → T (inner e) → (m : ℕ → Bool) (fs gs : List File) → Alike fs gs → tests (asks e) m fs ≡ tests (asks e) m gs
 tests-by e t m [] [] a = refl
 tests-by e t m [] (g ∷ gs) a = absurd a
 tests-by e t m (f ∷ fs) [] a = absurd a
@@ -313,18 +313,18 @@ tests-by e t m (f ∷ fs) (g ∷ gs) a =
     ap (λ b. b && tests (asks e) (λ j. m (suc j)) fs) (asks-by e t (m 0) f g (a .0))
     ∙ ap (λ b. asks e (m 0) g && b) (tests-by e t (λ j. m (suc j)) fs gs (a .1))
 
-allowed-by : (e : Event) (m : ℕ → Bool) → T (inner e) → (w u : Disk) → Same w u → allowed (e at m) w ≡ allowed (e at m) u
+allowed-by : (e : Happening) (m : ℕ → Bool) → T (inner e) → (w u : Disk) → Same w u → allowed (e at m) w ≡ allowed (e at m) u
 allowed-by e m t w u s =
     ap (λ b. b && tests (asks e) m (w .files)) (may-by e t (w .home) (u .home) (s .0))
     ∙ ap (λ b. may e (u .home) && b) (tests-by e t m (w .files) (u .files) (s .1))
 
-changes-by : (e : Event) → T (inner e) → (m : ℕ → Bool) (fs gs : List File) → Alike fs gs → Alike (changes (does e) m fs) (changes (does e) m gs)
+changes-by : (e : Happening) → T (inner e) → (m : ℕ → Bool) (fs gs : List File) → Alike fs gs → Alike (changes (does e) m fs) (changes (does e) m gs)
 changes-by e t m [] [] a = tt
 changes-by e t m [] (g ∷ gs) a = absurd a
 changes-by e t m (f ∷ fs) [] a = absurd a
 changes-by e t m (f ∷ fs) (g ∷ gs) a = (does-by e t (m 0) f g (a .0), changes-by e t (λ j. m (suc j)) fs gs (a .1))
 
-step-by : (e : Event) (m : ℕ → Bool) → T (inner e) → (w u : Disk) → Same w u → T (allowed (e at m) w) → Same (step-of (e at m) w) (step-of (e at m) u)
+step-by : (e : Happening) (m : ℕ → Bool) → T (inner e) → (w u : Disk) → Same w u → T (allowed (e at m) w) → Same (step-of (e at m) w) (step-of (e at m) u)
 step-by e m t w u s p = go (allowed (e at m) w) (allowed (e at m) u) p (subst T (allowed-by e m t w u s) p)
   where
     go : (a b : Bool) → T a → T b → Same (cond a (forced (e at m) w) w) (cond b (forced (e at m) u) u)

@@ -5,7 +5,7 @@ use mathlib.Core.Bool.{Bool, true, false, not, _&&_, _||_, cond}
 use mathlib.Core.List.{List, [], _∷_}
 use Prim.Native.Nat.{ℕ}
 use lib.Dec.{T}
-use Rattle.night_folders.specs.Folders.{Site, nowhere, work, place, Text, part, whole, off, idle, undoing, File, Home, Disk, Event}
+use Rattle.night_folders.specs.Folders.{Site, nowhere, work, place, Text, part, whole, off, idle, undoing, File, Home, Disk, Happening}
 use Rattle.night_folders.specs.Folders.{create, write, fsync-file, fsync-night, commit, call, fsync-commit, put, fsync-place, rmdir-done, fsync-last, fail, unlink, rmdir-night, kill}
 use Rattle.night_folders.specs.Folders.{also-call, also-fsync, also-put, also-place, also-rmdir, also-last, also-kill, cut, land-night, land-done, land-site, land-text, land-half, Deed, _at_}
 use Rattle.night_folders.specs.Rules.{isHelp, isPhase, may, asks}
@@ -53,7 +53,7 @@ pub one-commit : (n : ℕ) (acts : List Deed) → T (not (afterwards acts (start
 one-commit n acts q = all-show (afterwards acts (start n) .home) (afterwards acts (start n) .files) q (after-keeps acts (start n) (start-good n) .1)
 
 -- STATE.done has reached the device: nothing takes that back
-past-tests : (e : Event) (n d : Bool) → T (eachHome (λ h. implies (h .past) (turn e h .past)) n d)
+past-tests : (e : Happening) (n d : Bool) → T (eachHome (λ h. implies (h .past) (turn e h .past)) n d)
 past-tests create n d = tt
 past-tests write n d = tt
 past-tests fsync-file n d = tt
@@ -162,7 +162,7 @@ never-torn n acts = all-intact (afterwards acts (start n) .home) (afterwards act
 abbrev lost : Home → Bool
 lost h = (not (h .past) && not (h .done)) && (not (h .done-down) && (isHelp off h && (isPhase idle h || isPhase undoing h)))
 
-lost-tests : (e : Event) (n d : Bool) → T (eachHome (λ h. implies (lost h && may e h) (lost (turn e h))) n d)
+lost-tests : (e : Happening) (n d : Bool) → T (eachHome (λ h. implies (lost h && may e h) (lost (turn e h))) n d)
 lost-tests create n d = tt
 lost-tests write n d = tt
 lost-tests fsync-file n d = tt

@@ -4,7 +4,7 @@ use mathlib.Core.Bool.{Bool, true, false, not, _&&_, _||_, cond}
 use mathlib.Core.List.{List, [], _∷_}
 use Prim.Native.Nat.{ℕ, zero, suc}
 use lib.Dec.{T}
-use Rattle.night_folders.specs.Folders.{Step, saved, moved, idle, placing, clearing, Help, off, File, Home, Disk, Event, call, fsync-commit}
+use Rattle.night_folders.specs.Folders.{Step, saved, moved, idle, placing, clearing, Help, off, File, Home, Disk, Happening, call, fsync-commit}
 use Rattle.night_folders.specs.Folders.{put, fsync-place, rmdir-done, fsync-last, kill, also-kill, cut, Deed, _at_}
 use Rattle.night_folders.specs.Rules.{isStep, may, asks}
 use Rattle.night_folders.specs.Effects.{all, does, tests, changes, allowed, forced, step-of, afterwards, newcomers, one, none, eachFrom, recovery}
@@ -108,7 +108,7 @@ sweep Q n h r m (suc k) i q fs z w =
     (sweep Q n h r m k (suc i) q (changes (does put) (one i) fs) (changes-sized n (does put) (one i) fs z) (turn-does i fs w))
 
 -- events that ask nothing of any file
-asks-none : (e : Event) → ((f : File) → T (asks e false f)) → (fs : List File) → T (tests (asks e) none fs)
+asks-none : (e : Happening) → ((f : File) → T (asks e false f)) → (fs : List File) → T (tests (asks e) none fs)
 asks-none e a [] = tt
 asks-none e a (f ∷ fs) = both (asks e false f) (tests (asks e) none fs) (a f) (asks-none e a fs)
 

@@ -4,7 +4,7 @@ use mathlib.Core.List.{List, [], _∷_}
 use Prim.Native.Nat.{ℕ, zero, suc}
 use lib.Dec.{T, eqb}
 use Rattle.night_folders.specs.Folders.{Site, nowhere, work, place, Text, part, whole, Step, fresh, made, written, saved, moved, down, idle, making, sealed, decided, placing, clearing}
-use Rattle.night_folders.specs.Folders.{undoing, off, looking, putting, leaving, Got, todo, tried, sure, File, Home, Disk, Event, create, write, fsync-file, fsync-night, commit, call}
+use Rattle.night_folders.specs.Folders.{undoing, off, looking, putting, leaving, Got, todo, tried, sure, File, Home, Disk, Happening, create, write, fsync-file, fsync-night, commit, call}
 use Rattle.night_folders.specs.Folders.{fsync-commit, put, fsync-place, rmdir-done, fsync-last, fail, unlink, rmdir-night, kill, also-call, also-fsync, also-put, also-place, also-rmdir}
 use Rattle.night_folders.specs.Folders.{also-last, also-kill, cut, land-night, land-done, land-site, land-text, land-half, Deed, _at_}
 use Rattle.night_folders.specs.Rules.{isHelp, isGot, isPhase, isStep, may, asks}
@@ -105,16 +105,16 @@ abbrev pub Good : Disk → Type 0
 Good w = T (sound (w .home)) × T (allFit (w .home) (w .files))
 
 -- the computed tests: the names alone, and the names with a file
-abbrev keeps-home : Event → Home → Bool
+abbrev keeps-home : Happening → Home → Bool
 keeps-home e h = implies (sound h && may e h) (sound (turn e h))
 
-abbrev keeps-file : Event → Home → Bool → File → Bool
+abbrev keeps-file : Happening → Home → Bool → File → Bool
 keeps-file e h m f = implies (tells h f && asks e m f) (fits (turn e h) (does e m f))
 
-abbrev keeps : Event → Home → Bool
+abbrev keeps : Happening → Home → Bool
 keeps e h = implies (sound h && may e h) (eachBool (λ m. eachFile (lies h) (λ f. keeps-file e h m f)))
 
-pub home-tests : (e : Event) (n d : Bool) → T (eachHome (keeps-home e) n d)
+pub home-tests : (e : Happening) (n d : Bool) → T (eachHome (keeps-home e) n d)
 home-tests create n d = tt
 home-tests write n d = tt
 home-tests fsync-file n d = tt
@@ -144,7 +144,7 @@ home-tests land-site n d = tt
 home-tests land-text n d = tt
 home-tests land-half n d = tt
 
-pub file-tests : (e : Event) (n d : Bool) → T (eachHome (keeps e) n d)
+pub file-tests : (e : Happening) (n d : Bool) → T (eachHome (keeps e) n d)
 file-tests create n d = tt
 file-tests write n d = tt
 file-tests fsync-file n d = tt
@@ -174,10 +174,10 @@ file-tests land-site n d = tt
 file-tests land-text n d = tt
 file-tests land-half n d = tt
 
-keep-home : (e : Event) (h : Home) → T (sound h) → T (may e h) → T (sound (turn e h))
+keep-home : (e : Happening) (h : Home) → T (sound h) → T (may e h) → T (sound (turn e h))
 keep-home e h s m = meet (sound h && may e h) (sound (turn e h)) (at-home (keeps-home e) (home-tests e) h) (both (sound h) (may e h) s m)
 
-keep-file : (e : Event) (h : Home) (m : Bool) (f : File) → T (sound h) → T (may e h) → T (fits h f) → T (asks e m f) → T (fits (turn e h) (does e m f))
+keep-file : (e : Happening) (h : Home) (m : Bool) (f : File) → T (sound h) → T (may e h) → T (fits h f) → T (asks e m f) → T (fits (turn e h) (does e m f))
 keep-file e h m f s a t q =
     let l = first (lies h (f .site) (f .site-down) (f .text) (f .text-down)) (tells h f) t in
     let k = second (lies h (f .site) (f .site-down) (f .text) (f .text-down)) (tells h f) t in
@@ -187,7 +187,7 @@ keep-file e h m f s a t q =
     (at-file (lies h) (λ g. keeps-file e h m g) (at-bool (λ n. eachFile (lies h) (λ g. keeps-file e h n g)) every m) f l)
     (both (tells h f) (asks e m f) k q)
 
-keep-files : (e : Event) (h : Home) (m : ℕ → Bool) (fs : List File) → T (sound h) → T (may e h) → T (allFit h fs)
+keep-files : (e : Happening) (h : Home) (m : ℕ → Bool) (fs : List File) → T (sound h) → T (may e h) → T (allFit h fs)
     → T (tests (asks e) m fs) → T (allFit (turn e h) (changes (does e) m fs))
 keep-files e h m [] s a t q = tt
 keep-files e h m (f ∷ fs) s a t q =

@@ -9,7 +9,7 @@ use Prim.Native.Nat.{ℕ, zero, suc}
 use mathlib.Core.Path.{_≡_}
 use Rattle.night_folders.specs.Folders.{Site, nowhere, work, place, Text, part, whole, fresh, made, written, saved, moved, down, idle}
 use Rattle.night_folders.specs.Folders.{making, sealed, decided, placing, clearing, undoing, off, looking, putting, leaving, todo, tried}
-use Rattle.night_folders.specs.Folders.{sure, File, Home, Disk, Event, create, write, fsync-file, fsync-night, commit, call, fsync-commit, put}
+use Rattle.night_folders.specs.Folders.{sure, File, Home, Disk, Happening, create, write, fsync-file, fsync-night, commit, call, fsync-commit, put}
 use Rattle.night_folders.specs.Folders.{fsync-place, rmdir-done, fsync-last, fail, unlink, rmdir-night, kill, also-call, also-fsync, also-put}
 use Rattle.night_folders.specs.Folders.{also-place, also-rmdir, also-last, also-kill, cut, land-night, land-done, land-site, land-text, land-half, Deed}
 use Rattle.night_folders.specs.Folders.{_at_}
@@ -28,7 +28,7 @@ abbrev pub landed : Home → Home
 landed h = night-landed (done-landed h)
 
 -- what an event does to the names in STATE's folder
-abbrev pub turn : Event → Home → Home
+abbrev pub turn : Happening → Home → Home
 turn create h = h
 turn write h = h
 turn fsync-file h = h
@@ -75,7 +75,7 @@ if-mine true f g = f
 if-mine false f g = g
 
 -- what an event does to a file (mine: the event is about this file)
-abbrev pub does : Event → Bool → File → File
+abbrev pub does : Happening → Bool → File → File
 does create mine f = if-mine mine (withStep made (withSite work (withText part f))) f
 does write mine f = if-mine mine (withStep written (withText whole f)) f
 does fsync-file mine f = if-mine mine (withStep saved (stored f)) f
@@ -185,7 +185,7 @@ none j = false
 abbrev pub all : ℕ → Bool
 all j = true
 
-abbrev pub eachFrom : ℕ → ℕ → Event → List Deed → List Deed
+abbrev pub eachFrom : ℕ → ℕ → Happening → List Deed → List Deed
 eachFrom i zero e r = r
 eachFrom i (suc n) e r = e at one i ∷ eachFrom (suc i) n e r
 
