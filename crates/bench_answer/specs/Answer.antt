@@ -11,7 +11,7 @@ use Rattle.machine.specs.declared.Machine.{Machine}
 use Rattle.boundary.specs.World.{Lent, lent, terms}
 use Rattle.cabinet.specs.Answers.{Answer, answerOf}
 use Rattle.printing.specs.Printing.{ascii}
-use Rattle.lines.specs.Lines.{counted, numbersOf, countsText, registersText, refusedText, refusal}
+use Rattle.lines.specs.Lines.{counted, countsText, registersText, refusedText, refusal}
 use Rattle.bench_input.specs.declared.Input.{Input}
 use Rattle.bench_input.specs.declared.Input.the-variants.{Bad, Run}
 use Rattle.bench_input.specs.Input.{inputOf, imageOf}
@@ -20,7 +20,7 @@ use Rattle.bench_input.specs.Input.{inputOf, imageOf}
 unfoldable pub stopText : Answer → List ℕ
 stopText a =
     counted "stop " (a .reply .number)
-    ++ countsText (numbersOf (a .cycles) (a .instructions) (a .entries) (a .used) (a .sent))
+    ++ countsText (record { cycles = a .cycles; instructions = a .instructions; entries = a .entries; used = a .used; sent = a .sent })
     ++ registersText (a .machine .chip .registers)
 
 -- "Replies 1 to 3 and 10 print `refused K`; 4 to 7 print `refused K record R`"

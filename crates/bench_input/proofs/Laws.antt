@@ -16,7 +16,7 @@ use Rattle.turns.specs.Turn.{Turn, more, done}
 use Rattle.turns.proofs.Laws.{loop-more, loop-done}
 use Rattle.session.specs.Session.{lengthAt, kindAt, nextAt}
 use Rattle.bench_input.specs.Input.{isWhole, addressAt, bytesAt, isLoad, isRun, afterLoads, storedAt}
-use Rattle.bench_input.specs.Input.{Storing, loadTurn, loadsOf, isGood, runAt, inputOf, imageOf}
+use Rattle.bench_input.specs.Input.{Filling, loadTurn, loadsOf, isGood, runAt, inputOf, imageOf}
 use Rattle.bench_input.specs.declared.Input.{Input}
 use Rattle.bench_input.specs.declared.Input.the-variants.{Bad, Run}
 
@@ -89,9 +89,9 @@ module _ (s : List ℕ) where
   unfolding afterLoads
   place-done at e = loop-done _ _ _ place-falls (rw e)
 
-  load-falls : (l k : Storing) → loadTurn s l ≡ more k → length s - k .at < length s - l .at
+  load-falls : (l k : Filling) → loadTurn s l ≡ more k → length s - k .at < length s - l .at
   load-falls l k e =
-      subst (OnMore (λ (x : Storing). length s - x .at < length s - l .at)) e (on-cond _ (isLoad s (l .at)) _ (l .memory) (less (l .at)))
+      subst (OnMore (λ (x : Filling). length s - x .at < length s - l .at)) e (on-cond _ (isLoad s (l .at)) _ (l .memory) (less (l .at)))
 
   pub loads-more : (at : ℕ) (memory : List ℕ) → isLoad s at ≡ true
       → loadsOf s at memory ≡ loadsOf s (nextAt s at) (storedAt memory (addressAt s at) (bytesAt s at))

@@ -42,11 +42,11 @@ storedAt memory at [] = memory
 storedAt memory at (b ∷ bs) = storedAt (set memory at b) (at + 1) bs
 
 -- the load records from a place on, each stored over those before it
-pub record Storing : Type 0 where
+pub record Filling : Type 0 where
   pub at : ℕ
   pub memory : List ℕ
 
-abbrev pub loadTurn : List ℕ → Storing → Turn Storing (List ℕ)
+abbrev pub loadTurn : List ℕ → Filling → Turn Filling (List ℕ)
 loadTurn s l =
     cond (isLoad s (l .at))
     (more (record { at = nextAt s (l .at); memory = storedAt (l .memory) (addressAt s (l .at)) (bytesAt s (l .at)) }))
@@ -54,7 +54,7 @@ loadTurn s l =
 
 unfoldable pub loadsOf : List ℕ → ℕ → List ℕ → List ℕ
 loadsOf s at memory =
-    loopOf (loadTurn s) (λ (l : Storing). l .memory) (λ (l : Storing). length s - l .at) (record { at = at; memory = memory })
+    loopOf (loadTurn s) (λ (l : Filling). l .memory) (λ (l : Filling). length s - l .at) (record { at = at; memory = memory })
 
 -- "at most 16,384 bytes: load records .., one run record .., then the session. Anything else before the session, or a longer
 -- input, is reply 10"

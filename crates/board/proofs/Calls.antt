@@ -16,7 +16,8 @@ use Rattle.cabinet.specs.declared.Leapt.{Leapt}
 use Rattle.cabinet.specs.Answers.{Answer, answered, answerOf, leapsOf}
 use Rattle.saved.specs.declared.Loaded.{Loaded}
 use Rattle.saved.specs.Layout.{savedOf}
-use Rattle.saved.specs.Answers.{leftOf, gives, toldLoaded, loadOf}
+use Rattle.asking.specs.Asking.{gives}
+use Rattle.saved.specs.Answers.{leftOf, toldLoaded, loadOf}
 use Rattle.saved.proofs.Exactly.{load-gives}
 use Rattle.board_results.specs.declared.Counted.{Counted}
 use Rattle.board_results.specs.Results.{toldCounts, noCounts, recordSize, recordBytes, unfitReply}

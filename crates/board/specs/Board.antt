@@ -13,8 +13,9 @@ use Rattle.machine.specs.declared.Machine.{Machine}
 use Rattle.boundary.specs.World.{Lent, Terms}
 use Rattle.cabinet.specs.declared.Ran.{Ran}
 use Rattle.cabinet.specs.Answers.{Answer, answerOf, leapsOf}
+use Rattle.asking.specs.Asking.{Given, gives, replies}
 use Rattle.saved.specs.Layout.{savedOf}
-use Rattle.saved.specs.Answers as load
+use Rattle.saved.specs.Answers.{loadOf}
 use Rattle.board_results.specs.declared.Counted.{Counted}
 use Rattle.board_results.specs.Results.{Counts, counts, noCounts, recordSize, recordBytes, unfitReply}
 
@@ -57,14 +58,14 @@ ranCall leaping t b m =
 abbrev pub refusedCall : Bool → Buffers → ℕ → Called
 refusedCall leaping b k = cond (eqb k 2) (reported leaping (told (unfitReply (b .lent .image)) none) noCounts 0 b) (called k b)
 
-abbrev pub onLoad : Bool → Terms → Buffers → load.Given → Called
-onLoad leaping t b (load.gives m) = ranCall leaping t b m
-onLoad leaping t b (load.replies k) = refusedCall leaping b k
+abbrev pub onLoad : Bool → Terms → Buffers → Given Machine → Called
+onLoad leaping t b (gives m) = ranCall leaping t b m
+onLoad leaping t b (replies k) = refusedCall leaping b k
 
 -- a run: 29; then 26, 27, 28; then 01's replies in 01's order
 unfoldable pub runCall : Bool → Terms → Buffers → Called
 runCall leaping t b =
-    cond (ltb (length (b .result)) (recordSize leaping)) (called 29 b) (onLoad leaping t b (load.loadOf (b .machine)))
+    cond (ltb (length (b .result)) (recordSize leaping)) (called 29 b) (onLoad leaping t b (loadOf (b .machine)))
 
 -- both runs: the leaping run's record tells the leaps besides
 abbrev pub singleCall : Terms → Buffers → Called

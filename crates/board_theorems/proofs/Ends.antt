@@ -13,7 +13,8 @@ use Rattle.replies.specs.Replies.{told}
 use Rattle.machine.specs.declared.Machine.{Machine}
 use Rattle.boundary.specs.World.{Terms}
 use Rattle.saved.specs.Layout.{machineIn}
-use Rattle.saved.specs.Answers.{loadOf, gives, replies}
+use Rattle.asking.specs.Asking.{gives, replies}
+use Rattle.saved.specs.Answers.{loadOf}
 use Rattle.saved.proofs.Answers.{load-cases}
 use Rattle.board_results.specs.Results.{noCounts, recordSize, unfitReply}
 use Rattle.board.specs.Board.{Buffers, Called, called, reported, ranCall, onLoad, runCall}

@@ -23,7 +23,8 @@ use Rattle.cabinet.specs.Answers.{Answer, answerOf, leapsOf}
 use Rattle.cabinet.proofs.Ends.{reply-most}
 use Rattle.cabinet_theorems.proofs.Left.{refused-untouched, machine-left}
 use Rattle.saved.specs.Layout.{savedOf}
-use Rattle.saved.specs.Answers.{Given, gives, replies, loadOf}
+use Rattle.asking.specs.Asking.{Given, gives, replies}
+use Rattle.saved.specs.Answers.{loadOf}
 use Rattle.saved.proofs.Back.{Bytes, load-then-save}
 use Rattle.saved.proofs.Kept.{save-then-load}
 use Rattle.saved.proofs.Exactly.{loaded-ranges}
@@ -128,7 +129,7 @@ runs-agree t b h =
     both-refused true k u = (refl, refl, refl, records-alike u noCounts 0 (b .result))
     both-refused false k u = (refl, refl, refl, refl)
 
-    alike : (g : Given) → Agree (onLoad false t b g) (onLoad true t b g)
+    alike : (g : Given Machine) → Agree (onLoad false t b g) (onLoad true t b g)
     alike (gives m) =
         let a = answerOf t m (b .lent) in
         (refl, refl, refl, records-alike (a .reply) (countsOf a) (leapsOf t m (b .lent)) (b .result))

@@ -16,11 +16,6 @@ counted word n = ascii word ++ decimalOf n
 abbrev pub coded : String → ℕ → ℕ → List ℕ
 coded word digits n = ascii word ++ hexadecimalOf digits n
 
--- the counts that every line of a run tells
-abbrev pub numbersOf : ℕ → ℕ → ℕ → ℕ → ℕ → Numbers
-numbersOf cycles instructions entries used sent =
-    record { cycles = cycles; instructions = instructions; entries = entries; used = used; sent = sent }
-
 -- "cycles, instructions, interrupt entries, records used and bytes sent in decimal, then registers in hexadecimal"
 unfoldable pub countsText : Numbers → List ℕ
 countsText n =

@@ -12,7 +12,7 @@ ghost use mathlib.Core.List.{_++_};
 ghost use mathlib.Core.Option.{none, some};
 ghost use Rattle.printing.specs.Printing.{decimalOf, hexadecimalOf, emptyLine, putsOf};
 ghost use Rattle.replies.specs.Replies.{toldReply};
-ghost use Rattle.lines.specs.Lines.{numbersOf, countsText, registersText, refusedText, refusal};
+ghost use Rattle.lines.specs.Lines.{countsText, registersText, refusedText, refusal};
 
 // The counts that every line of a run tells.
 pub struct Numbers {
@@ -31,7 +31,7 @@ pub fn run_numbers(
     used: Records,
     sent: Sent,
 ) -> Numbers
-    ensures { λ r. ⌜ r ≡ numbersOf (cycles .0) (instructions .0) (entries .0) (used .0) (sent .0) ⌝ }
+    ensures { λ r. ⌜ r ≡ record { cycles = cycles .0; instructions = instructions .0; entries = entries .0; used = used .0; sent = sent .0 } ⌝ }
 {
     Numbers {
         cycles: cycles.0 as u64,

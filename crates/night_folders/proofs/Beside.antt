@@ -5,16 +5,17 @@ use mathlib.Core.Bool.{Bool, true, false, _&&_, cond}
 use mathlib.Core.List.{List, [], _∷_}
 use Prim.Native.Nat.{ℕ, suc}
 use lib.Dec.{T}
-use Rattle.night_folders.specs.Folders.{File, Home, World}
-use Rattle.night_folders.specs.Folders.{Event, create, write, fsync-file, fsync-night, commit, call, fsync-commit, put, fsync-place, rmdir-done, fsync-last}
+use Rattle.night_folders.specs.Folders.{File, Home, Disk}
+use Rattle.night_folders.specs.Folders.{Happening, create, write, fsync-file, fsync-night, commit, call, fsync-commit, put, fsync-place, rmdir-done, fsync-last}
 use Rattle.night_folders.specs.Folders.{fail, unlink, rmdir-night, kill, also-call, also-fsync, also-put, also-place, also-rmdir, also-last, also-kill, cut}
-use Rattle.night_folders.specs.Folders.{land-night, land-done, land-spot, land-text, land-half, Act, _at_}
+use Rattle.night_folders.specs.Folders.{land-night, land-done, land-site, land-text, land-half, Deed, _at_}
 use Rattle.night_folders.specs.Rules.{may, asks}
-use Rattle.night_folders.specs.Effects.{to, stepTo, turn, does, tests, changes, allowed, forced, step-of, run, lawful}
+use Rattle.night_folders.specs.Fields.{withPhase, withStep}
+use Rattle.night_folders.specs.Effects.{turn, does, tests, changes, allowed, forced, step-of, afterwards, lawful}
 use Rattle.night_folders.proofs.Every.{first, second, both}
 
 -- an operation of the running call; its first, which finds STATE.done, goes by what it finds
-abbrev pub inner : Event → Bool
+abbrev pub inner : Happening → Bool
 inner create = true
 inner write = true
 inner fsync-file = true
@@ -40,12 +41,12 @@ inner also-kill = false
 inner cut = false
 inner land-night = false
 inner land-done = false
-inner land-spot = false
+inner land-site = false
 inner land-text = false
 inner land-half = false
 
 -- what happens beside it, and is no power cut
-abbrev pub outer : Event → Bool
+abbrev pub outer : Happening → Bool
 outer create = false
 outer write = false
 outer fsync-file = false
@@ -71,25 +72,25 @@ outer also-kill = true
 outer cut = false
 outer land-night = true
 outer land-done = true
-outer land-spot = true
+outer land-site = true
 outer land-text = true
 outer land-half = true
 
--- two worlds of which the call remembers the same
+-- two disks of which the call remembers the same
 abbrev Alike : List File → List File → Type 0
 Alike [] [] = Unit
 Alike [] (g ∷ gs) = ⊥
 Alike (f ∷ fs) [] = ⊥
 Alike (f ∷ fs) (g ∷ gs) = (f .step ≡ g .step) × Alike fs gs
 
-abbrev Same : World → World → Type 0
+abbrev Same : Disk → Disk → Type 0
 Same w v = (w .home .phase ≡ v .home .phase) × Alike (w .files) (v .files)
 
 same-refl : (fs : List File) → Alike fs fs
 same-refl [] = tt
 same-refl (f ∷ fs) = (refl, same-refl fs)
 
-phase-kept : (v : Event) → T (outer v) → (h : Home) → turn v h .phase ≡ h .phase
+phase-kept : (v : Happening) → T (outer v) → (h : Home) → turn v h .phase ≡ h .phase
 phase-kept create t h = absurd t
 phase-kept write t h = absurd t
 phase-kept fsync-file t h = absurd t
@@ -115,11 +116,11 @@ phase-kept also-kill t h = refl
 phase-kept cut t h = absurd t
 phase-kept land-night t h = refl
 phase-kept land-done t h = refl
-phase-kept land-spot t h = refl
+phase-kept land-site t h = refl
 phase-kept land-text t h = refl
 phase-kept land-half t h = refl
 
-step-kept : (v : Event) → T (outer v) → (b : Bool) (f : File) → does v b f .step ≡ f .step
+step-kept : (v : Happening) → T (outer v) → (b : Bool) (f : File) → does v b f .step ≡ f .step
 step-kept create t b f = absurd t
 step-kept write t b f = absurd t
 step-kept fsync-file t b f = absurd t
@@ -147,28 +148,28 @@ step-kept also-kill t b f = refl
 step-kept cut t b f = absurd t
 step-kept land-night t b f = refl
 step-kept land-done t b f = refl
-step-kept land-spot t true f = refl
-step-kept land-spot t false f = refl
+step-kept land-site t true f = refl
+step-kept land-site t false f = refl
 step-kept land-text t true f = refl
 step-kept land-text t false f = refl
 step-kept land-half t true f = refl
 step-kept land-half t false f = refl
 
-may-by : (e : Event) → T (inner e) → (g h : Home) → g .phase ≡ h .phase → may e g ≡ may e h
-may-by create t g h q = ap (λ p. may create (to p g)) q
-may-by write t g h q = ap (λ p. may write (to p g)) q
-may-by fsync-file t g h q = ap (λ p. may fsync-file (to p g)) q
-may-by fsync-night t g h q = ap (λ p. may fsync-night (to p g)) q
-may-by commit t g h q = ap (λ p. may commit (to p g)) q
+may-by : (e : Happening) → T (inner e) → (g h : Home) → g .phase ≡ h .phase → may e g ≡ may e h
+may-by create t g h q = ap (λ p. may create (withPhase p g)) q
+may-by write t g h q = ap (λ p. may write (withPhase p g)) q
+may-by fsync-file t g h q = ap (λ p. may fsync-file (withPhase p g)) q
+may-by fsync-night t g h q = ap (λ p. may fsync-night (withPhase p g)) q
+may-by commit t g h q = ap (λ p. may commit (withPhase p g)) q
 may-by call t g h q = absurd t
-may-by fsync-commit t g h q = ap (λ p. may fsync-commit (to p g)) q
-may-by put t g h q = ap (λ p. may put (to p g)) q
-may-by fsync-place t g h q = ap (λ p. may fsync-place (to p g)) q
-may-by rmdir-done t g h q = ap (λ p. may rmdir-done (to p g)) q
-may-by fsync-last t g h q = ap (λ p. may fsync-last (to p g)) q
-may-by fail t g h q = ap (λ p. may fail (to p g)) q
-may-by unlink t g h q = ap (λ p. may unlink (to p g)) q
-may-by rmdir-night t g h q = ap (λ p. may rmdir-night (to p g)) q
+may-by fsync-commit t g h q = ap (λ p. may fsync-commit (withPhase p g)) q
+may-by put t g h q = ap (λ p. may put (withPhase p g)) q
+may-by fsync-place t g h q = ap (λ p. may fsync-place (withPhase p g)) q
+may-by rmdir-done t g h q = ap (λ p. may rmdir-done (withPhase p g)) q
+may-by fsync-last t g h q = ap (λ p. may fsync-last (withPhase p g)) q
+may-by fail t g h q = ap (λ p. may fail (withPhase p g)) q
+may-by unlink t g h q = ap (λ p. may unlink (withPhase p g)) q
+may-by rmdir-night t g h q = ap (λ p. may rmdir-night (withPhase p g)) q
 may-by kill t g h q = refl
 may-by also-call t g h q = absurd t
 may-by also-fsync t g h q = absurd t
@@ -180,21 +181,21 @@ may-by also-kill t g h q = absurd t
 may-by cut t g h q = absurd t
 may-by land-night t g h q = absurd t
 may-by land-done t g h q = absurd t
-may-by land-spot t g h q = absurd t
+may-by land-site t g h q = absurd t
 may-by land-text t g h q = absurd t
 may-by land-half t g h q = absurd t
 
-asks-by : (e : Event) → T (inner e) → (b : Bool) (f g : File) → f .step ≡ g .step → asks e b f ≡ asks e b g
-asks-by create t b f g q = ap (λ s. asks create b (stepTo s f)) q
-asks-by write t b f g q = ap (λ s. asks write b (stepTo s f)) q
-asks-by fsync-file t b f g q = ap (λ s. asks fsync-file b (stepTo s f)) q
-asks-by fsync-night t b f g q = ap (λ s. asks fsync-night b (stepTo s f)) q
+asks-by : (e : Happening) → T (inner e) → (b : Bool) (f g : File) → f .step ≡ g .step → asks e b f ≡ asks e b g
+asks-by create t b f g q = ap (λ s. asks create b (withStep s f)) q
+asks-by write t b f g q = ap (λ s. asks write b (withStep s f)) q
+asks-by fsync-file t b f g q = ap (λ s. asks fsync-file b (withStep s f)) q
+asks-by fsync-night t b f g q = ap (λ s. asks fsync-night b (withStep s f)) q
 asks-by commit t b f g q = refl
 asks-by call t b f g q = absurd t
 asks-by fsync-commit t b f g q = refl
-asks-by put t b f g q = ap (λ s. asks put b (stepTo s f)) q
-asks-by fsync-place t b f g q = ap (λ s. asks fsync-place b (stepTo s f)) q
-asks-by rmdir-done t b f g q = ap (λ s. asks rmdir-done b (stepTo s f)) q
+asks-by put t b f g q = ap (λ s. asks put b (withStep s f)) q
+asks-by fsync-place t b f g q = ap (λ s. asks fsync-place b (withStep s f)) q
+asks-by rmdir-done t b f g q = ap (λ s. asks rmdir-done b (withStep s f)) q
 asks-by fsync-last t b f g q = refl
 asks-by fail t b f g q = refl
 asks-by unlink t b f g q = refl
@@ -210,11 +211,11 @@ asks-by also-kill t b f g q = absurd t
 asks-by cut t b f g q = absurd t
 asks-by land-night t b f g q = absurd t
 asks-by land-done t b f g q = absurd t
-asks-by land-spot t b f g q = absurd t
+asks-by land-site t b f g q = absurd t
 asks-by land-text t b f g q = absurd t
 asks-by land-half t b f g q = absurd t
 
-turn-by : (e : Event) → T (inner e) → (g h : Home) → g .phase ≡ h .phase → turn e g .phase ≡ turn e h .phase
+turn-by : (e : Happening) → T (inner e) → (g h : Home) → g .phase ≡ h .phase → turn e g .phase ≡ turn e h .phase
 turn-by create t g h q = q
 turn-by write t g h q = q
 turn-by fsync-file t g h q = q
@@ -240,11 +241,11 @@ turn-by also-kill t g h q = absurd t
 turn-by cut t g h q = absurd t
 turn-by land-night t g h q = absurd t
 turn-by land-done t g h q = absurd t
-turn-by land-spot t g h q = absurd t
+turn-by land-site t g h q = absurd t
 turn-by land-text t g h q = absurd t
 turn-by land-half t g h q = absurd t
 
-does-by : (e : Event) → T (inner e) → (b : Bool) (f g : File) → f .step ≡ g .step → does e b f .step ≡ does e b g .step
+does-by : (e : Happening) → T (inner e) → (b : Bool) (f g : File) → f .step ≡ g .step → does e b f .step ≡ does e b g .step
 does-by create t true f g q = refl
 does-by create t false f g q = q
 does-by write t true f g q = refl
@@ -276,35 +277,35 @@ does-by also-kill t b f g q = absurd t
 does-by cut t b f g q = absurd t
 does-by land-night t b f g q = absurd t
 does-by land-done t b f g q = absurd t
-does-by land-spot t b f g q = absurd t
+does-by land-site t b f g q = absurd t
 does-by land-text t b f g q = absurd t
 does-by land-half t b f g q = absurd t
 
 -- what happens beside the call leaves its memory
-files-kept : (v : Event) → T (outer v) → (k : ℕ → Bool) (fs gs : List File) → Alike fs gs → Alike fs (changes (does v) k gs)
+files-kept : (v : Happening) → T (outer v) → (k : ℕ → Bool) (fs gs : List File) → Alike fs gs → Alike fs (changes (does v) k gs)
 files-kept v t k [] [] a = tt
 files-kept v t k [] (g ∷ gs) a = absurd a
 files-kept v t k (f ∷ fs) [] a = absurd a
 files-kept v t k (f ∷ fs) (g ∷ gs) a = (a .0 ∙ sym (step-kept v t (k 0) g), files-kept v t (λ j. k (suc j)) fs gs (a .1))
 
-step-beside : (v : Event) (k : ℕ → Bool) → T (outer v) → (w u : World) → Same w u → Same w (step-of (v at k) u)
+step-beside : (v : Happening) (k : ℕ → Bool) → T (outer v) → (w u : Disk) → Same w u → Same w (step-of (v at k) u)
 step-beside v k t w u s = go (allowed (v at k) u)
   where
     go : (b : Bool) → Same w (cond b (forced (v at k) u) u)
     go false = s
     go true = (s .0 ∙ sym (phase-kept v t (u .home)), files-kept v t k (w .files) (u .files) (s .1))
 
-abbrev pub outers : List Act → Bool
+abbrev pub outers : List Deed → Bool
 outers [] = true
 outers (v at k ∷ vs) = outer v && outers vs
 
-run-beside : (vs : List Act) → T (outers vs) → (w u : World) → Same w u → Same w (run vs u)
-run-beside [] t w u s = s
-run-beside (v at k ∷ vs) t w u s =
-    run-beside vs (second (outer v) (outers vs) t) w (step-of (v at k) u) (step-beside v k (first (outer v) (outers vs) t) w u s)
+after-beside : (vs : List Deed) → T (outers vs) → (w u : Disk) → Same w u → Same w (afterwards vs u)
+after-beside [] t w u s = s
+after-beside (v at k ∷ vs) t w u s =
+    after-beside vs (second (outer v) (outers vs) t) w (step-of (v at k) u) (step-beside v k (first (outer v) (outers vs) t) w u s)
 
 -- the call may do the same, and remembers the same after it
-tests-by : (e : Event) → T (inner e) → (m : ℕ → Bool) (fs gs : List File) → Alike fs gs → tests (asks e) m fs ≡ tests (asks e) m gs
+tests-by : (e : Happening) → T (inner e) → (m : ℕ → Bool) (fs gs : List File) → Alike fs gs → tests (asks e) m fs ≡ tests (asks e) m gs
 tests-by e t m [] [] a = refl
 tests-by e t m [] (g ∷ gs) a = absurd a
 tests-by e t m (f ∷ fs) [] a = absurd a
@@ -312,18 +313,18 @@ tests-by e t m (f ∷ fs) (g ∷ gs) a =
     ap (λ b. b && tests (asks e) (λ j. m (suc j)) fs) (asks-by e t (m 0) f g (a .0))
     ∙ ap (λ b. asks e (m 0) g && b) (tests-by e t (λ j. m (suc j)) fs gs (a .1))
 
-allowed-by : (e : Event) (m : ℕ → Bool) → T (inner e) → (w u : World) → Same w u → allowed (e at m) w ≡ allowed (e at m) u
+allowed-by : (e : Happening) (m : ℕ → Bool) → T (inner e) → (w u : Disk) → Same w u → allowed (e at m) w ≡ allowed (e at m) u
 allowed-by e m t w u s =
     ap (λ b. b && tests (asks e) m (w .files)) (may-by e t (w .home) (u .home) (s .0))
     ∙ ap (λ b. may e (u .home) && b) (tests-by e t m (w .files) (u .files) (s .1))
 
-changes-by : (e : Event) → T (inner e) → (m : ℕ → Bool) (fs gs : List File) → Alike fs gs → Alike (changes (does e) m fs) (changes (does e) m gs)
+changes-by : (e : Happening) → T (inner e) → (m : ℕ → Bool) (fs gs : List File) → Alike fs gs → Alike (changes (does e) m fs) (changes (does e) m gs)
 changes-by e t m [] [] a = tt
 changes-by e t m [] (g ∷ gs) a = absurd a
 changes-by e t m (f ∷ fs) [] a = absurd a
 changes-by e t m (f ∷ fs) (g ∷ gs) a = (does-by e t (m 0) f g (a .0), changes-by e t (λ j. m (suc j)) fs gs (a .1))
 
-step-by : (e : Event) (m : ℕ → Bool) → T (inner e) → (w u : World) → Same w u → T (allowed (e at m) w) → Same (step-of (e at m) w) (step-of (e at m) u)
+step-by : (e : Happening) (m : ℕ → Bool) → T (inner e) → (w u : Disk) → Same w u → T (allowed (e at m) w) → Same (step-of (e at m) w) (step-of (e at m) u)
 step-by e m t w u s p = go (allowed (e at m) w) (allowed (e at m) u) p (subst T (allowed-by e m t w u s) p)
   where
     go : (a b : Bool) → T a → T b → Same (cond a (forced (e at m) w) w) (cond b (forced (e at m) u) u)
@@ -331,28 +332,28 @@ step-by e m t w u s p = go (allowed (e at m) w) (allowed (e at m) u) p (subst T 
     go true false p q = absurd q
     go false b p q = absurd p
 
-abbrev pub inners : List Act → Bool
+abbrev pub inners : List Deed → Bool
 inners [] = true
 inners (e at m ∷ as′) = inner e && inners as′
 
 -- every operation of a list can be when its turn comes, with these events before each
-abbrev pub lawfulBeside : (ℕ → List Act) → List Act → World → Bool
+abbrev pub lawfulBeside : (ℕ → List Deed) → List Deed → Disk → Bool
 lawfulBeside others [] w = true
-lawfulBeside others (a ∷ as′) w = allowed a (run (others 0) w) && lawfulBeside (λ j. others (suc j)) as′ (step-of a (run (others 0) w))
+lawfulBeside others (a ∷ as′) w = allowed a (afterwards (others 0) w) && lawfulBeside (λ j. others (suc j)) as′ (step-of a (afterwards (others 0) w))
 
-beside : (as′ : List Act) → T (inners as′) → (others : ℕ → List Act) → ((j : ℕ) → T (outers (others j))) → (w u : World) → Same w u
+beside : (as′ : List Deed) → T (inners as′) → (others : ℕ → List Deed) → ((j : ℕ) → T (outers (others j))) → (w u : Disk) → Same w u
     → T (lawful as′ w) → T (lawfulBeside others as′ u)
 beside [] i others o w u s l = tt
 beside (e at m ∷ as′) i others o w u s l =
     let t = first (inner e) (inners as′) i in
-    let v : World = run (others 0) u in
-    let s′ : Same w v = run-beside (others 0) (o 0) w u s in
+    let v : Disk = afterwards (others 0) u in
+    let s′ : Same w v = after-beside (others 0) (o 0) w u s in
     let p = first (allowed (e at m) w) (lawful as′ (step-of (e at m) w)) l in
     both (allowed (e at m) v) (lawfulBeside (λ j. others (suc j)) as′ (step-of (e at m) v)) (subst T (allowed-by e m t w v s′) p)
     (beside as′ (second (inner e) (inners as′) i) (λ j. others (suc j)) (λ j. o (suc j)) (step-of (e at m) w) (step-of (e at m) v) (step-by e m t w v s′ p)
     (second (allowed (e at m) w) (lawful as′ (step-of (e at m) w)) l))
 
 -- operations that are allowed one after another are so whatever happens beside
-pub allowed-beside : (as′ : List Act) (w : World) (others : ℕ → List Act) → T (inners as′) → ((j : ℕ) → T (outers (others j))) → T (lawful as′ w)
+pub allowed-beside : (as′ : List Deed) (w : Disk) (others : ℕ → List Deed) → T (inners as′) → ((j : ℕ) → T (outers (others j))) → T (lawful as′ w)
     → T (lawfulBeside others as′ w)
 allowed-beside as′ w others i o l = beside as′ i others o w w (refl, same-refl (w .files)) l

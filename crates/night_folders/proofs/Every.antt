@@ -1,9 +1,15 @@
 -- A test at every value of each type of the model, computed; and what it says of one value. Assumes nothing.
 use mathlib.Core.Bool.{Bool, true, false, _&&_}
 use lib.Dec.{T}
-use Rattle.night_folders.specs.Folders.{Spot, nowhere, work, place, Text, part, whole, Step, fresh, made, written, saved, moved, down, Phase, idle, making, sealed, decided, placing, clearing}
+use Rattle.night_folders.specs.Folders.{Site, nowhere, work, place, Text, part, whole, Step, fresh, made, written, saved, moved, down, Phase, idle, making, sealed, decided, placing, clearing}
 use Rattle.night_folders.specs.Folders.{undoing, Help, off, looking, putting, leaving, Got, todo, tried, sure, File, Home}
-use Rattle.night_folders.specs.Effects.{homeOf, fileOf}
+
+-- all fields of a record in their order, for the tests over every value
+abbrev pub homeOf : Phase → Help → Bool → Bool → Bool → Bool → Bool → Home
+homeOf p g n nd d dd past = record { phase = p; help = g; night = n; night-down = nd; done = d; done-down = dd; past = past }
+
+abbrev fileOf : Step → Got → Site → Site → Text → Text → File
+fileOf s g b c d e = record { step = s; got = g; site = b; site-down = c; text = d; text-down = e }
 
 pub first : (a b : Bool) → T (a && b) → T a
 first true b t = tt
@@ -32,13 +38,13 @@ pub at-bool : (p : Bool → Bool) → T (eachBool p) → (b : Bool) → T (p b)
 at-bool p t false = first (p false) (p true) t
 at-bool p t true = second (p false) (p true) t
 
-abbrev pub eachSpot : (Spot → Bool) → Bool
-eachSpot p = p nowhere && (p work && p place)
+abbrev pub eachSite : (Site → Bool) → Bool
+eachSite p = p nowhere && (p work && p place)
 
-pub at-spot : (p : Spot → Bool) → T (eachSpot p) → (s : Spot) → T (p s)
-at-spot p t nowhere = first (p nowhere) (p work && p place) t
-at-spot p t work = first (p work) (p place) (second (p nowhere) (p work && p place) t)
-at-spot p t place = second (p work) (p place) (second (p nowhere) (p work && p place) t)
+pub at-site : (p : Site → Bool) → T (eachSite p) → (s : Site) → T (p s)
+at-site p t nowhere = first (p nowhere) (p work && p place) t
+at-site p t work = first (p work) (p place) (second (p nowhere) (p work && p place) t)
+at-site p t place = second (p work) (p place) (second (p nowhere) (p work && p place) t)
 
 abbrev pub eachText : (Text → Bool) → Bool
 eachText p = p part && p whole
@@ -88,27 +94,27 @@ at-got p t tried = first (p tried) (p sure) (second (p todo) _ t)
 at-got p t sure = second (p tried) (p sure) (second (p todo) _ t)
 
 -- every file whose entry and bytes pass a first test
-abbrev eachMemory : (File → Bool) → Spot → Spot → Text → Text → Bool
+abbrev eachMemory : (File → Bool) → Site → Site → Text → Text → Bool
 eachMemory p b c d e = eachStep (λ a. eachGot (λ g. p (fileOf a g b c d e)))
 
-abbrev pub eachFile : (Spot → Spot → Text → Text → Bool) → (File → Bool) → Bool
-eachFile q p = eachSpot (λ b. eachSpot (λ c. eachText (λ d. eachText (λ e. implies (q b c d e) (eachMemory p b c d e)))))
+abbrev pub eachFile : (Site → Site → Text → Text → Bool) → (File → Bool) → Bool
+eachFile q p = eachSite (λ b. eachSite (λ c. eachText (λ d. eachText (λ e. implies (q b c d e) (eachMemory p b c d e)))))
 
-at-memory : (p : File → Bool) (f : File) → T (eachMemory p (f .spot) (f .spot-down) (f .text) (f .text-down)) → T (p f)
+at-memory : (p : File → Bool) (f : File) → T (eachMemory p (f .site) (f .site-down) (f .text) (f .text-down)) → T (p f)
 at-memory p f t =
-    at-got (λ g. p (fileOf (f .step) g (f .spot) (f .spot-down) (f .text) (f .text-down)))
-    (at-step (λ a. eachGot (λ g. p (fileOf a g (f .spot) (f .spot-down) (f .text) (f .text-down))))
+    at-got (λ g. p (fileOf (f .step) g (f .site) (f .site-down) (f .text) (f .text-down)))
+    (at-step (λ a. eachGot (λ g. p (fileOf a g (f .site) (f .site-down) (f .text) (f .text-down))))
     t (f .step)) (f .got)
 
-pub at-file : (q : Spot → Spot → Text → Text → Bool) (p : File → Bool) → T (eachFile q p)
-    → (f : File) → T (q (f .spot) (f .spot-down) (f .text) (f .text-down)) → T (p f)
+pub at-file : (q : Site → Site → Text → Text → Bool) (p : File → Bool) → T (eachFile q p)
+    → (f : File) → T (q (f .site) (f .site-down) (f .text) (f .text-down)) → T (p f)
 at-file q p t f h =
-    at-memory p f (meet (q (f .spot) (f .spot-down) (f .text) (f .text-down)) _
-    (at-text (λ e. implies (q (f .spot) (f .spot-down) (f .text) e) (eachMemory p (f .spot) (f .spot-down) (f .text) e))
-    (at-text (λ d. eachText (λ e. implies (q (f .spot) (f .spot-down) d e) (eachMemory p (f .spot) (f .spot-down) d e)))
-    (at-spot (λ c. eachText (λ d. eachText (λ e. implies (q (f .spot) c d e) (eachMemory p (f .spot) c d e))))
-    (at-spot (λ b. eachSpot (λ c. eachText (λ d. eachText (λ e. implies (q b c d e) (eachMemory p b c d e))))) t (f .spot))
-    (f .spot-down)) (f .text)) (f .text-down)) h)
+    at-memory p f (meet (q (f .site) (f .site-down) (f .text) (f .text-down)) _
+    (at-text (λ e. implies (q (f .site) (f .site-down) (f .text) e) (eachMemory p (f .site) (f .site-down) (f .text) e))
+    (at-text (λ d. eachText (λ e. implies (q (f .site) (f .site-down) d e) (eachMemory p (f .site) (f .site-down) d e)))
+    (at-site (λ c. eachText (λ d. eachText (λ e. implies (q (f .site) c d e) (eachMemory p (f .site) c d e))))
+    (at-site (λ b. eachSite (λ c. eachText (λ d. eachText (λ e. implies (q b c d e) (eachMemory p b c d e))))) t (f .site))
+    (f .site-down)) (f .text)) (f .text-down)) h)
 
 -- every state of the names; the entries of STATE.night stand for themselves, as no test looks at them
 abbrev pub eachHome : (Home → Bool) → Bool → Bool → Bool

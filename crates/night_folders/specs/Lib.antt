@@ -1,3 +1,4 @@
 pub mod Folders
+pub mod Fields
 pub mod Rules
 pub mod Effects

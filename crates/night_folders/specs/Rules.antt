@@ -3,10 +3,10 @@ use mathlib.Core.Bool.{Bool, true, false, _&&_}
 use Prim.Native.Nat.{ℕ}
 use lib.Dec.{eqb}
 use Rattle.night_folders.specs.Folders.{Step, fresh, made, written, saved, moved, down, Phase, idle, making, sealed, decided, placing, clearing}
-use Rattle.night_folders.specs.Folders.{undoing, Help, off, looking, putting, leaving, Got, todo, tried, sure, File, Home, Event, create, write}
+use Rattle.night_folders.specs.Folders.{undoing, Help, off, looking, putting, leaving, Got, todo, tried, sure, File, Home, Happening, create, write}
 use Rattle.night_folders.specs.Folders.{fsync-file, fsync-night, commit, call, fsync-commit, put, fsync-place, rmdir-done, fsync-last, fail, unlink}
 use Rattle.night_folders.specs.Folders.{rmdir-night, kill, also-call, also-fsync, also-put, also-place, also-rmdir, also-last, also-kill, cut}
-use Rattle.night_folders.specs.Folders.{land-night, land-done, land-spot, land-text, land-half}
+use Rattle.night_folders.specs.Folders.{land-night, land-done, land-site, land-text, land-half}
 
 abbrev pub phaseNo : Phase → ℕ
 phaseNo idle = 0
@@ -49,7 +49,7 @@ abbrev pub isGot : Got → File → Bool
 isGot s f = eqb (gotNo s) (gotNo (f .got))
 
 -- what its call is about ..
-abbrev pub may : Event → Home → Bool
+abbrev pub may : Happening → Home → Bool
 may create h = isPhase making h
 may write h = isPhase making h
 may fsync-file h = isPhase making h
@@ -75,7 +75,7 @@ may also-kill h = true
 may cut h = true
 may land-night h = true
 may land-done h = true
-may land-spot h = true
+may land-site h = true
 may land-text h = true
 may land-half h = false
 
@@ -84,7 +84,7 @@ only true b = b
 only false b = true
 
 -- .. and how far it is with the file (mine: the event is about this file), or with all files
-abbrev pub asks : Event → Bool → File → Bool
+abbrev pub asks : Happening → Bool → File → Bool
 asks create mine f = only mine (isStep fresh f)
 asks write mine f = only mine (isStep made f)
 asks fsync-file mine f = only mine (isStep written f)
@@ -110,6 +110,6 @@ asks also-kill mine f = true
 asks cut mine f = true
 asks land-night mine f = true
 asks land-done mine f = true
-asks land-spot mine f = true
+asks land-site mine f = true
 asks land-text mine f = true
 asks land-half mine f = true

@@ -1,4 +1,4 @@
--- The law of one slice: the run's answer, the session that was kept and the sums, put roundSum. Assumes nothing.
+-- The law of one slice: the run's answer, the session that was kept and the sums, put together. Assumes nothing.
 use Prim.Native.Nat.{ℕ, _+_, _-_, _≤_, _<_}
 use native.Mathlib.Nat.{le-of-eq}
 use native.Mathlib.Omega.{arith}

@@ -15,7 +15,6 @@ use Rattle.cabinet.specs.Answers.{Answer, answerOf, leapsOf}
 use Rattle.rest.specs.Rest.{restOf}
 use Rattle.rest.specs.Answers.{RestReply, restWrote, refuses, restAnswer}
 use Rattle.lines.specs.declared.Numbers.{Numbers}
-use Rattle.lines.specs.Lines.{numbersOf}
 use Rattle.printing.specs.Printing.{ascii}
 use Rattle.night_lines.specs.NightLines.{endText}
 use Rattle.night_slices.specs.declared.SliceEnd.{SliceEnd}
@@ -129,7 +128,7 @@ nightOf asked m given room =
 unfoldable pub nightText : Standing → List ℕ
 nightText s =
     endText (s .told) (s .slices)
-    (numbersOf (s .cycles) (s .instructions) (s .entries) (s .used) (s .sent))
+    (record { cycles = s .cycles; instructions = s .instructions; entries = s .entries; used = s .used; sent = s .sent })
     (s .leaps) (s .machine .chip .registers)
     ++ ascii "\n"
 
@@ -161,7 +160,7 @@ standing n given session =
 
 -- a slice's numbers, for its line
 abbrev pub ranNumbers : Ran → Numbers
-ranNumbers r = numbersOf (r .cycles .0) (r .instructions .0) (r .entries .0) (r .used .0) (r .sent .0)
+ranNumbers r = record { cycles = r .cycles .0; instructions = r .instructions .0; entries = r .entries .0; used = r .used .0; sent = r .sent .0 }
 
 -- the night at its start, and after a slice, as the code has them
 abbrev pub beginning : SliceEnd → Machine → ℕ → ℕ → Night

@@ -8,7 +8,7 @@ use borrow.Author.Tests.{ltb-true}
 use Rattle.night_steps.specs.declared.Op.{Op}
 use Rattle.night_steps.specs.declared.Op.the-variants.{Find, ReadNames, Take, Blocked, FindAgain, Settle, GiveBack, Run, Make, SyncNight, Unlink, RemoveNight}
 use Rattle.night_steps.specs.declared.Op.the-variants.{Commit, SyncCommit, Put, SyncPlaces, RemoveDone, SyncLast, Placed, Refused, Stopped}
-use Rattle.night_steps.specs.Steps.{choice, nextOf, waitsOf, isMake}
+use Rattle.night_steps.specs.Steps.{choice, nextOp, waitsOf, isMake}
 
 abbrev pub ahead : Op → ℕ
 ahead Find = 5
@@ -61,7 +61,7 @@ chosen : (f : Op → ℕ) (n : ℕ) (b : Bool) {x y : Op} → (b ≡ true → f 
 chosen f n true p q = p refl
 chosen f n false p q = q refl
 
-pub falls : (op : Op) (ok own : Bool) → waitsOf op ≡ false → ahead (nextOf op ok own) < ahead op
+pub falls : (op : Op) (ok own : Bool) → waitsOf op ≡ false → ahead (nextOp op ok own) < ahead op
 falls Find ok own h = chosen ahead 5 ok (λ e. omega arith) (λ e. omega arith)
 falls ReadNames ok own h = absurd (true≢false h)
 falls Take ok own h = chosen ahead 4 ok (λ e. omega arith) (λ e. omega arith)
@@ -85,7 +85,7 @@ falls Placed ok own h = absurd (true≢false h)
 falls (Refused k) ok own h = absurd (true≢false h)
 falls (Stopped k) ok own h = absurd (true≢false h)
 
-pub makes-fall : (op : Op) (ok own : Bool) → isMake op ≡ true → toMake (nextOf op ok own) < toMake op
+pub makes-fall : (op : Op) (ok own : Bool) → isMake op ≡ true → toMake (nextOp op ok own) < toMake op
 makes-fall Find ok own h = absurd (true≢false (sym h))
 makes-fall ReadNames ok own h = absurd (true≢false (sym h))
 makes-fall Take ok own h = absurd (true≢false (sym h))

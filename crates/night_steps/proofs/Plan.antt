@@ -7,11 +7,11 @@ use lib.Dec.{T, ltb}
 use Rattle.night_steps.specs.declared.Op.{Op}
 use Rattle.night_steps.specs.declared.Op.the-variants.{Find, ReadNames, Take, Blocked, FindAgain, Settle, GiveBack, Run, Make, SyncNight, Unlink, RemoveNight}
 use Rattle.night_steps.specs.declared.Op.the-variants.{Commit, SyncCommit, Put, SyncPlaces, RemoveDone, SyncLast, Placed, Refused, Stopped}
-use Rattle.night_steps.specs.Steps.{choice, afterMake, afterPut, nextOf, events, walk, end}
-use Rattle.night_folders.specs.Folders.{Act, _at_, File, Help, World, idle}
-use Rattle.night_folders.specs.Effects.{homeOf, start, nightly, recovery, lawful, run, step-of, allowed}
+use Rattle.night_steps.specs.Steps.{choice, afterMake, afterPut, nextOp, events, walk, end}
+use Rattle.night_folders.specs.Folders.{Deed, _at_, File, Help, Disk, idle}
+use Rattle.night_folders.specs.Effects.{start, nightly, recovery, lawful, afterwards, step-of, allowed}
 use Rattle.night_folders.proofs.Beside.{inner, inners, outers, lawfulBeside, allowed-beside}
-use Rattle.night_folders.proofs.Every.{first, second, both}
+use Rattle.night_folders.proofs.Every.{homeOf, first, second, both}
 
 abbrev pub well : ℕ → Bool
 well j = true
@@ -33,7 +33,7 @@ pub taken-in-order : (walk 4 well false Find ≡ []) × (end 4 well false Find �
 taken-in-order = (refl, refl)
 
 -- one list of events after another keeps to the rules if each does
-both-lawful : (as′ bs : List Act) (w : World) → T (lawful as′ w) → T (lawful bs (run as′ w)) → T (lawful (as′ ++ bs) w)
+both-lawful : (as′ bs : List Deed) (w : Disk) → T (lawful as′ w) → T (lawful bs (afterwards as′ w)) → T (lawful (as′ ++ bs) w)
 both-lawful [] bs w s t = t
 both-lawful (a ∷ as′) bs w s t =
     both (allowed a w) (lawful (as′ ++ bs) (step-of a w)) (first (allowed a w) (lawful as′ (step-of a w)) s)
@@ -64,17 +64,17 @@ matters (Refused k) = false
 matters (Stopped k) = false
 
 -- whichever way each of k operations goes, the events keep to the rules
-abbrev keeps : ℕ → Bool → Op → World → Bool
+abbrev keeps : ℕ → Bool → Op → Disk → Bool
 keeps zero own op w = true
 keeps (suc k) own op w =
-    cond (matters op) (lawful (events op false) w && keeps k own (nextOf op false own) (run (events op false) w)) true
-    && (lawful (events op true) w && keeps k own (nextOf op true own) (run (events op true) w))
+    cond (matters op) (lawful (events op false) w && keeps k own (nextOp op false own) (afterwards (events op false) w)) true
+    && (lawful (events op true) w && keeps k own (nextOp op true own) (afterwards (events op true) w))
 
 -- one operation, by its answer
-abbrev way : ℕ → Bool → World → Bool → Op → Bool
-way k own w b op = lawful (events op b) w && keeps k own (nextOf op b own) (run (events op b) w)
+abbrev way : ℕ → Bool → Disk → Bool → Op → Bool
+way k own w b op = lawful (events op b) w && keeps k own (nextOp op b own) (afterwards (events op b) w)
 
-goes : (k : ℕ) (own : Bool) (w : World) (b : Bool) (op : Op) → T (keeps (suc k) own op w) → T (way k own w b op)
+goes : (k : ℕ) (own : Bool) (w : Disk) (b : Bool) (op : Op) → T (keeps (suc k) own op w) → T (way k own w b op)
 goes k own w true op t = second (cond (matters op) (way k own w false op) true) (way k own w true op) t
 goes k own w false Find t = first (way k own w false Find) _ t
 goes k own w false ReadNames t = first (way k own w false ReadNames) _ t
@@ -98,12 +98,12 @@ goes k own w false Placed t = t
 goes k own w false (Refused i) t = t
 goes k own w false (Stopped i) t = t
 
-either-way : (k : ℕ) (answers : ℕ → Bool) (own : Bool) (op : Op) (w : World) → T (keeps k own op w) → T (lawful (walk k answers own op) w)
+either-way : (k : ℕ) (answers : ℕ → Bool) (own : Bool) (op : Op) (w : Disk) → T (keeps k own op w) → T (lawful (walk k answers own op) w)
 either-way zero answers own op w t = tt
 either-way (suc k) answers own op w t =
     let s = goes k own w (answers 0) op t in
-    let m : Op = nextOf op (answers 0) own in
-    let v : World = run (events op (answers 0)) w in
+    let m : Op = nextOp op (answers 0) own in
+    let v : Disk = afterwards (events op (answers 0)) w in
     both-lawful (events op (answers 0)) (walk k (λ j. answers (suc j)) own m) w (first (lawful (events op (answers 0)) w) (keeps k own m v) s)
     (either-way k (λ j. answers (suc j)) own m v (second (lawful (events op (answers 0)) w) (keeps k own m v) s))
 
@@ -112,9 +112,9 @@ pub night-lawful : (answers : ℕ → Bool) → T (lawful (walk 20 answers true 
 night-lawful answers = either-way 20 answers true Run (start 5) tt
 
 -- and those of a call that found STATE.done, until its own night is to run, whatever a crash has left of the files
-abbrev found : Help → Bool → Bool → Bool → Bool → File → File → File → File → File → World
+abbrev found : Help → Bool → Bool → Bool → Bool → File → File → File → File → File → Disk
 found g x y d p f₀ f₁ f₂ f₃ f₄ =
-    run (events Find false) (record { home = homeOf idle g x y true d p; files = f₀ ∷ f₁ ∷ f₂ ∷ f₃ ∷ f₄ ∷ [] })
+    afterwards (events Find false) (record { home = homeOf idle g x y true d p; files = f₀ ∷ f₁ ∷ f₂ ∷ f₃ ∷ f₄ ∷ [] })
 
 pub recovery-lawful : (answers : ℕ → Bool) (g : Help) (x y d p : Bool) (f₀ f₁ f₂ f₃ f₄ : File)
     → T (lawful (walk 13 answers false ReadNames) (found g x y d p f₀ f₁ f₂ f₃ f₄))
@@ -164,7 +164,7 @@ chosen : (b : Bool) (x y : Op) → T (under-way x) → T (under-way y) → T (un
 chosen true x y p q = p
 chosen false x y p q = q
 
-goes-on : (op : Op) (ok own : Bool) → T (under-way (nextOf op ok own))
+goes-on : (op : Op) (ok own : Bool) → T (under-way (nextOp op ok own))
 goes-on Find ok own = chosen ok Take ReadNames tt tt
 goes-on ReadNames ok own = chosen ok SyncCommit (Stopped 33) tt tt
 goes-on Take ok own = chosen ok FindAgain Blocked tt tt
@@ -220,22 +220,22 @@ events-inner Placed ok u = tt
 events-inner (Refused k) ok u = tt
 events-inner (Stopped k) ok u = tt
 
-both-inner : (as′ bs : List Act) → T (inners as′) → T (inners bs) → T (inners (as′ ++ bs))
+both-inner : (as′ bs : List Deed) → T (inners as′) → T (inners bs) → T (inners (as′ ++ bs))
 both-inner [] bs p q = q
 both-inner (e at m ∷ as′) bs p q = both (inner e) (inners (as′ ++ bs)) (first (inner e) (inners as′) p) (both-inner as′ bs (second (inner e) (inners as′) p) q)
 
 walk-inner : (k : ℕ) (answers : ℕ → Bool) (own : Bool) (op : Op) → T (under-way op) → T (inners (walk k answers own op))
 walk-inner zero answers own op u = tt
 walk-inner (suc k) answers own op u =
-    both-inner (events op (answers 0)) (walk k (λ j. answers (suc j)) own (nextOf op (answers 0) own)) (events-inner op (answers 0) u)
-    (walk-inner k (λ j. answers (suc j)) own (nextOf op (answers 0) own) (goes-on op (answers 0) own))
+    both-inner (events op (answers 0)) (walk k (λ j. answers (suc j)) own (nextOp op (answers 0) own)) (events-inner op (answers 0) u)
+    (walk-inner k (λ j. answers (suc j)) own (nextOp op (answers 0) own) (goes-on op (answers 0) own))
 
-pub night-beside : (answers : ℕ → Bool) (others : ℕ → List Act) → ((j : ℕ) → T (outers (others j)))
+pub night-beside : (answers : ℕ → Bool) (others : ℕ → List Deed) → ((j : ℕ) → T (outers (others j)))
     → T (lawfulBeside others (walk 20 answers true Run) (start 5))
 night-beside answers others o =
     allowed-beside (walk 20 answers true Run) (start 5) others (walk-inner 20 answers true Run tt) o (night-lawful answers)
 
-pub recovery-beside : (answers : ℕ → Bool) (others : ℕ → List Act) → ((j : ℕ) → T (outers (others j))) → (g : Help) (x y d p : Bool) (f₀ f₁ f₂ f₃ f₄ : File)
+pub recovery-beside : (answers : ℕ → Bool) (others : ℕ → List Deed) → ((j : ℕ) → T (outers (others j))) → (g : Help) (x y d p : Bool) (f₀ f₁ f₂ f₃ f₄ : File)
     → T (lawfulBeside others (walk 13 answers false ReadNames) (found g x y d p f₀ f₁ f₂ f₃ f₄))
 recovery-beside answers others o g x y d p f₀ f₁ f₂ f₃ f₄ =
     allowed-beside (walk 13 answers false ReadNames) (found g x y d p f₀ f₁ f₂ f₃ f₄) others (walk-inner 13 answers false ReadNames tt) o

@@ -7,7 +7,7 @@ use Rattle.night_steps.specs.declared.Op.{Op}
 use Rattle.night_steps.specs.declared.Op.the-variants.{Find, ReadNames, Take, Blocked, FindAgain, Settle, GiveBack, Run, Make, SyncNight, Unlink}
 use Rattle.night_steps.specs.declared.Op.the-variants.{RemoveNight}
 use Rattle.night_steps.specs.declared.Op.the-variants.{Commit, SyncCommit, Put, SyncPlaces, RemoveDone, SyncLast, Placed, Refused, Stopped}
-use Rattle.night_folders.specs.Folders.{Act, _at_, create, write, fsync-file, fsync-night, commit, call, fsync-commit, put, fsync-place, rmdir-done}
+use Rattle.night_folders.specs.Folders.{Deed, _at_, create, write, fsync-file, fsync-night, commit, call, fsync-commit, put, fsync-place, rmdir-done}
 use Rattle.night_folders.specs.Folders.{fsync-last}
 use Rattle.night_folders.specs.Folders.{fail, unlink, rmdir-night, kill}
 use Rattle.night_folders.specs.Effects.{one, none, all}
@@ -28,32 +28,32 @@ afterUnlink i = choice (ltb i 4) (Unlink (i + 1)) RemoveNight
 
 -- ok: the operation went well; own: this call has begun its own night. Before the commit a failure leads to the clean-up, from it on to a stop: a
 -- rename that reports failure may have been done
-abbrev pub nextOf : Op → Bool → Bool → Op
-nextOf Find ok own = choice ok Take ReadNames
-nextOf ReadNames ok own = choice ok SyncCommit (Stopped 33)
-nextOf Take ok own = choice ok FindAgain Blocked
-nextOf Blocked ok own = choice ok (Refused 35) (Refused 34)
-nextOf FindAgain ok own = choice ok Settle (GiveBack 35)
-nextOf Settle ok own = choice ok Run (GiveBack 34)
-nextOf (GiveBack k) ok own = Refused k
-nextOf Run ok own = choice ok (Make 0) RemoveNight
-nextOf (Make i) ok own = choice ok (afterMake i) (Unlink 0)
-nextOf SyncNight ok own = choice ok Commit (Unlink 0)
-nextOf (Unlink i) ok own = afterUnlink i
-nextOf RemoveNight ok own = Refused 34
-nextOf Commit ok own = choice ok SyncCommit (Stopped 34)
-nextOf SyncCommit ok own = choice ok (Put 0) (Stopped 34)
-nextOf (Put i) ok own = choice ok (afterPut i) (Stopped 34)
-nextOf SyncPlaces ok own = choice ok RemoveDone (Stopped 34)
-nextOf RemoveDone ok own = choice ok SyncLast (Stopped 34)
-nextOf SyncLast ok own = choice ok (choice own Placed Take) (Stopped 34)
-nextOf Placed ok own = Placed
-nextOf (Refused k) ok own = Refused k
-nextOf (Stopped k) ok own = Stopped k
+abbrev pub nextOp : Op → Bool → Bool → Op
+nextOp Find ok own = choice ok Take ReadNames
+nextOp ReadNames ok own = choice ok SyncCommit (Stopped 33)
+nextOp Take ok own = choice ok FindAgain Blocked
+nextOp Blocked ok own = choice ok (Refused 35) (Refused 34)
+nextOp FindAgain ok own = choice ok Settle (GiveBack 35)
+nextOp Settle ok own = choice ok Run (GiveBack 34)
+nextOp (GiveBack k) ok own = Refused k
+nextOp Run ok own = choice ok (Make 0) RemoveNight
+nextOp (Make i) ok own = choice ok (afterMake i) (Unlink 0)
+nextOp SyncNight ok own = choice ok Commit (Unlink 0)
+nextOp (Unlink i) ok own = afterUnlink i
+nextOp RemoveNight ok own = Refused 34
+nextOp Commit ok own = choice ok SyncCommit (Stopped 34)
+nextOp SyncCommit ok own = choice ok (Put 0) (Stopped 34)
+nextOp (Put i) ok own = choice ok (afterPut i) (Stopped 34)
+nextOp SyncPlaces ok own = choice ok RemoveDone (Stopped 34)
+nextOp RemoveDone ok own = choice ok SyncLast (Stopped 34)
+nextOp SyncLast ok own = choice ok (choice own Placed Take) (Stopped 34)
+nextOp Placed ok own = Placed
+nextOp (Refused k) ok own = Refused k
+nextOp (Stopped k) ok own = Stopped k
 
 -- What an operation is in the model, by its answer. The model begins where a call has looked, taken STATE.night, looked again and brought the
 -- folder to the device, so these are no events of it. A Make that fails has come as far as it likes.
-abbrev pub events : Op → Bool → List Act
+abbrev pub events : Op → Bool → List Deed
 events Find true = []
 events Find false = call at none ∷ []
 events ReadNames true = []
@@ -88,13 +88,13 @@ events (Refused k) ok = []
 events (Stopped k) ok = []
 
 -- what a call does with these answers, k operations from op on; and the operation that it comes to
-abbrev pub walk : ℕ → (ℕ → Bool) → Bool → Op → List Act
+abbrev pub walk : ℕ → (ℕ → Bool) → Bool → Op → List Deed
 walk zero answers own op = []
-walk (suc k) answers own op = events op (answers 0) ++ walk k (λ j. answers (suc j)) own (nextOf op (answers 0) own)
+walk (suc k) answers own op = events op (answers 0) ++ walk k (λ j. answers (suc j)) own (nextOp op (answers 0) own)
 
 abbrev pub end : ℕ → (ℕ → Bool) → Bool → Op → Op
 end zero answers own op = op
-end (suc k) answers own op = end k (λ j. answers (suc j)) own (nextOf op (answers 0) own)
+end (suc k) answers own op = end k (λ j. answers (suc j)) own (nextOp op (answers 0) own)
 
 -- an end, or an operation that is another function's to carry out
 abbrev pub waitsOf : Op → Bool

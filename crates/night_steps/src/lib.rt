@@ -1,7 +1,7 @@
 // The sequence of a night's operations on its files: the next one, from the last one and whether it went well. A program carries them out and knows
 // no order of its own. proofs/Plan.antt: it is the sequence of night_folders' theorems, and it keeps to their rules whatever the system answers.
 ghost use mathlib.Core.Path.{_≡_};
-ghost use Rattle.night_steps.specs.Steps.{choice, afterMake, afterPut, afterUnlink, nextOf, waitsOf, isMake};
+ghost use Rattle.night_steps.specs.Steps.{choice, afterMake, afterPut, afterUnlink, nextOp, waitsOf, isMake};
 
 // The files of a night by number: 0 image, 1 state, 2 rest, 3 output, 4 names. The letters are the paragraphs of docs/NIGHT.md.
 pub enum Op {
@@ -66,7 +66,7 @@ fn after_unlink(i: u8) -> Op
 
 // The operation after `op`, which went well or not; `own` says whether this call has begun its own night, or puts another's in place.
 pub fn next(op: Op, ok: bool, own: bool) -> Op
-    ensures { λ r. ⌜ r ≡ nextOf op ok own ⌝ }
+    ensures { λ r. ⌜ r ≡ nextOp op ok own ⌝ }
 {
     match op {
         Op::Find => choose(ok, Op::Take, Op::ReadNames),

@@ -70,7 +70,7 @@ module _ (session : List ℕ) (n₁ n : ℕ) (l : n₁ ≤ n) (w₀ : World) whe
   run-whole : Whole (runOf (terms session n₁) w₀)
   run-whole = run-keeps (terms session n₁) Passes Whole turn-whole w₀ refl
 
--- sums that go round, and lists that were put roundSum
+-- sums that go round, and lists that were put together
 pub sum-twice : (a b c : ℕ) → roundSum a (b + c) ≡ roundSum (roundSum a b) c
 sum-twice a b c = omega arith
 

@@ -8,10 +8,11 @@ use lib.ListN.{length}
 use borrow.Author.Tests.{eq-eqb, ne-eqb, eqb-true, eqb-false}
 use Rattle.machine.specs.declared.Machine.{Machine}
 use Rattle.saved.specs.Layout.{wordAt, machineIn}
-use Rattle.saved.specs.Answers.{Given, gives, replies, standsOf, rangesIn, loadOf}
+use Rattle.asking.specs.Asking.{Given, gives, replies}
+use Rattle.saved.specs.Answers.{standsOf, rangesIn, loadOf}
 
 -- the four tests, in their order
-abbrev picked : Bool → Bool → Bool → Bool → Machine → Given
+abbrev picked : Bool → Bool → Bool → Bool → Machine → Given Machine
 picked fits version stands ranges m =
     cond (not fits) (replies 26) (cond (not version) (replies 27) (cond (not stands) (replies 28) (cond (not ranges) (replies 2) (gives m))))
 
@@ -41,7 +42,7 @@ pub ready : (l : List ℕ) (m : Machine) → length l ≡ 42 → wordAt l 0 ≡ 
 ready l m e v s i r = tested l m _ _ _ _ (eq-eqb (length l) 42 e) (eq-eqb (wordAt l 0) 1 v) s i r
 
 -- loading goes in one of five ways
-pub load-cases : (P : Given → Type 0) (l : List ℕ)
+pub load-cases : (P : Given Machine → Type 0) (l : List ℕ)
     → ((length l ≡ 42 → ⊥) → P (replies 26))
     → (length l ≡ 42 → (wordAt l 0 ≡ 1 → ⊥) → P (replies 27))
     → (length l ≡ 42 → wordAt l 0 ≡ 1 → standsOf l ≡ false → P (replies 28))

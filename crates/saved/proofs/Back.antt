@@ -10,7 +10,8 @@ use Rattle.arithmetic.proofs.CodesByte.{byte-kept}
 use Rattle.serial.specs.Serial.{trcsOf}
 use Rattle.machine.specs.declared.Machine.{Machine}
 use Rattle.saved.specs.Layout.{savedOf, byteIn, wordAt, machineIn}
-use Rattle.saved.specs.Answers.{gives, loadOf}
+use Rattle.asking.specs.Asking.{gives}
+use Rattle.saved.specs.Answers.{loadOf}
 use Rattle.saved.proofs.Bytes.{low-back, high-back, long-back, bool-back, byte-back, arms-back, control-back}
 use Rattle.saved.proofs.Exactly.{Stands, load-gives}
 

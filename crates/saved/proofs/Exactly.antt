@@ -15,7 +15,8 @@ use Rattle.machine.specs.declared.Machine.{Machine}
 use Rattle.machine.specs.Machine.{Ranges}
 use Rattle.machine.proofs.Ranges.{ranges-say, say-ranges}
 use Rattle.saved.specs.Layout.{savedOf, byteIn, wordAt, machineIn}
-use Rattle.saved.specs.Answers.{saveOf, leftOf, Given, gives, replies, standsOf, rangesIn, loadOf}
+use Rattle.asking.specs.Asking.{Given, gives, replies}
+use Rattle.saved.specs.Answers.{saveOf, leftOf, standsOf, rangesIn, loadOf}
 use Rattle.saved.proofs.Answers.{wrong-length, wrong-version, no-machine, wrong-machine, ready, load-cases}
 
 -- bytes that stand for a machine: no "bool above 1", and no "arm bit that is none"
@@ -77,11 +78,11 @@ denies true f n = absurd (n (f refl))
 denies false f n = refl
 
 -- a reply's number; 0 stands for a machine
-abbrev number : Given → ℕ
+abbrev number : Given Machine → ℕ
 number (gives m) = 0
 number (replies k) = k
 
-abbrev given : Given → Machine → Machine
+abbrev given : Given Machine → Machine → Machine
 given (gives m) other = m
 given (replies k) other = other
 
@@ -157,7 +158,7 @@ module _ (l : List ℕ) where
         (λ f v s n d. other refl d)
         (λ f v s n d q. (f, v, stands-say l s, ranges-said l n, sym q))
         (ap number e)
-        (ap (λ (g : Given). given g m) e)),
+        (ap (λ (g : Given Machine). given g m) e)),
     (λ h. ready l m (h .0) (h .1) (say-stands l (h .2)) (h .4) (subst (λ (k : Machine). rangesIn l k ≡ true) (sym (h .4)) (said-ranges l (h .3)))),
   )
 

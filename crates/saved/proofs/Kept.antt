@@ -18,7 +18,8 @@ use Rattle.bus.specs.Access.{ramControlOf}
 use Rattle.machine.specs.declared.Machine.{Machine}
 use Rattle.machine.specs.Machine.{rangesOf}
 use Rattle.saved.specs.Layout.{armsOf, savedOf, registersIn, portsIn, timerIn, serialIn, busIn, machineIn}
-use Rattle.saved.specs.Answers.{gives, replies, standsOf, rangesIn, loadOf}
+use Rattle.asking.specs.Asking.{gives, replies}
+use Rattle.saved.specs.Answers.{standsOf, rangesIn, loadOf}
 use Rattle.saved.proofs.Bytes.{word-kept, long-kept, bool-kept, bool-most, bits-kept, arms-none, control-none}
 use Rattle.saved.proofs.Answers.{wrong-machine, ready}
 

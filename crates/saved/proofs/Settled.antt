@@ -11,7 +11,8 @@ use Rattle.saved.specs.declared.Saved.{Saved}
 use Rattle.saved.specs.declared.Saved.the-variants.{Done, WrongLength}
 use Rattle.saved.specs.declared.Loaded.{Loaded}
 use Rattle.saved.specs.declared.Loaded.the-variants as loaded
-use Rattle.saved.specs.Answers.{toldSaved, saveOf, leftOf, Given, gives, replies, toldLoaded, loadOf}
+use Rattle.asking.specs.Asking.{Given, gives, replies}
+use Rattle.saved.specs.Answers.{toldSaved, saveOf, leftOf, toldLoaded, loadOf}
 
 abbrev savedBack : Option ℕ → Saved
 savedBack none = Done
@@ -24,7 +25,7 @@ saved-known = known toldSaved savedBack back
     back Done = refl
     back WrongLength = refl
 
-abbrev loadedBack : Given → Loaded
+abbrev loadedBack : Given Machine → Loaded
 loadedBack (gives m) = loaded.Ready m
 loadedBack (replies k) =
     cond (eqb k 26) loaded.WrongLength (cond (eqb k 27) loaded.WrongVersion (cond (eqb k 28) loaded.NoMachine loaded.WrongMachine))

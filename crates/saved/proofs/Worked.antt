@@ -14,7 +14,8 @@ use Rattle.chip.specs.Instructions.{read2}
 use Rattle.machine.specs.declared.Machine.{Machine}
 use Rattle.machine.specs.Machine.{resetAct, resetOf, cold}
 use Rattle.saved.specs.Layout.{savedOf, machineIn}
-use Rattle.saved.specs.Answers.{gives, standsOf, rangesIn, loadOf}
+use Rattle.asking.specs.Asking.{gives}
+use Rattle.saved.specs.Answers.{standsOf, rangesIn, loadOf}
 
 -- power-on of an image whose bytes are 0, all memory writable
 abbrev pub powered : Machine

@@ -8,6 +8,7 @@ use lib.ListN.{length}
 use Rattle.bits.specs.Bits.{bit}
 use Rattle.machine.specs.declared.Machine.{Machine}
 use Rattle.machine.specs.Machine.{rangesOf}
+use Rattle.asking.specs.Asking.{Given, gives, replies}
 use Rattle.saved.specs.declared.Saved.{Saved}
 use Rattle.saved.specs.declared.Saved.the-variants.{Done, WrongLength}
 use Rattle.saved.specs.declared.Loaded.{Loaded}
@@ -27,13 +28,8 @@ saveOf bytes = cond (eqb (length bytes) 42) none (some 26)
 abbrev pub leftOf : Machine → List ℕ → List ℕ
 leftOf m bytes = cond (eqb (length bytes) 42) (savedOf m) bytes
 
--- an answer that is a machine, or a reply's number
-pub data Given : Type 0 where
-  gives : Machine → Given
-  replies : ℕ → Given
-
 -- loading: a machine, or 26 wrong length, 27 wrong version, 28 bytes that stand for no machine, 2 (01's table) outside its ranges
-abbrev pub toldLoaded : Loaded → Given
+abbrev pub toldLoaded : Loaded → Given Machine
 toldLoaded (loaded.Ready m) = gives m
 toldLoaded loaded.WrongLength = replies 26
 toldLoaded loaded.WrongVersion = replies 27
@@ -52,7 +48,7 @@ unfoldable pub rangesIn : List ℕ → Machine → Bool
 rangesIn l m = bit (byteIn l 10) 128 && bit (byteIn l 10) 64 && eqb (byteIn l 35 % 64) 0 && rangesOf m
 
 -- loading: the tests in this order, then the machine
-unfoldable pub loadOf : List ℕ → Given
+unfoldable pub loadOf : List ℕ → Given Machine
 loadOf l =
     cond (not (eqb (length l) 42)) (replies 26)
     (cond (not (eqb (wordAt l 0) 1)) (replies 27)
