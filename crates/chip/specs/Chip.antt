@@ -1,5 +1,4 @@
 -- How the functions tell what a tree comes to: the processor on its bus, with the memories.
-use Prim.Native.Nat.{ℕ}
 use Rattle.bus.specs.declared.Bus.{Bus}
 use Rattle.bus.specs.Access.{Memories}
 use Rattle.registers.specs.declared.Registers.{Registers}

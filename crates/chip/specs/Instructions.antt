@@ -1,7 +1,7 @@
 -- The instructions: where the operand is, and what each operation does with it, access by access in 01's order.
 -- 01: "Two-byte accesses go high byte first (pushed ones low first), each with its own effects."
 use Prim.Native.Nat.{ℕ}
-use mathlib.Core.Bool.{Bool, true, false, cond}
+use mathlib.Core.Bool.{true, false, cond}
 use Rattle.bits.specs.Words.{high, low, paired, up, down}
 use Rattle.tables.specs.Tables.{vectorOf}
 use Rattle.tables.specs.declared.Vector.the-variants.{Swi}

@@ -1,6 +1,5 @@
 -- Step 4 of a boundary: which causes hold, and the first in 01's order.
-use Prim.Native.Nat.{ℕ}
-use mathlib.Core.Bool.{Bool, true, false, not, cond, _&&_}
+use mathlib.Core.Bool.{Bool, false, not, cond, _&&_}
 use mathlib.Core.List.{List, [], _∷_}
 use Rattle.tables.specs.declared.Vector.{Vector}
 use Rattle.tables.specs.declared.Vector.the-variants as vectors

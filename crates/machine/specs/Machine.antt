@@ -1,12 +1,11 @@
 -- The machine: its ranges, cycles passing, reset and power-on.
 use Prim.Native.Nat.{ℕ, _≤_}
-use mathlib.Core.Bool.{Bool, true, false, cond, _&&_}
+use mathlib.Core.Bool.{Bool, true, false, cond}
 use mathlib.Core.List.{List}
 use mathlib.Core.Path.{_≡_}
 use lib.Dec.{leb, eqb}
 use lib.ListN.{length}
 use Rattle.bits.specs.declared.Flag.{Flag}
-use Rattle.bits.specs.Flags.{clear}
 use Rattle.tables.specs.Tables.{vectorOf}
 use Rattle.tables.specs.declared.Vector.the-variants.{Reset}
 use Rattle.ports.specs.declared.Ports.{Ports}
@@ -16,7 +15,6 @@ use Rattle.bus.specs.declared.Bus.{Bus}
 use Rattle.bus.specs.Access.{Memories, memories}
 use Rattle.bus.specs.Units.{passed, resetBus, busRanges}
 use Rattle.registers.specs.declared.Registers.{Registers}
-use Rattle.chip.specs.declared.Chip.{Chip}
 use Rattle.chip.specs.Act.{Act, Act.done, Out, run, _>>=_}
 use Rattle.chip.specs.Instructions.{read2}
 use Rattle.machine.specs.declared.Machine.{Machine}
