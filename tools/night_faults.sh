@@ -141,6 +141,8 @@ for f in 'image two image' 'output two output' 'image2 three image' 'output2 thr
     read -r here set there <<<"$f"
     cmp -s "$here" "../sets/$set/$there" || { mixed=1; echo "bad: a held call: $here is not the one of night $set"; }
 done
-{ said '^refused 34' && grep -q '^night stop' ../second && [ ! -e state.done ] && [ ! -e state.night ]; } || { mixed=1; echo "bad: a held call: $(cat ../out ../second)"; }
+if ! said '^refused 34' || ! grep -q '^night stop' ../second || [ -e state.done ] || [ -e state.night ]; then
+    mixed=1; echo "bad: a held call: $(cat ../out ../second)"
+fi
 echo "a held call: bad $mixed"
 [ "$bad$worse$mixed" = 000 ]
