@@ -24,7 +24,7 @@ pub enum Op {
     RemoveDone, // (h) remove STATE.done; that it is gone is well
     SyncLast, // (h) bring STATE's folder to the device
     Placed, // the end: all new
-    Refused(u8), // the end: this call changed nothing
+    Refused(u8), // the end: nothing of this call's own night is left, but for a clean-up that failed
     Stopped(u8), // the end for now: the next call goes on from STATE.done, or the commit failed
 }
 
