@@ -1,0 +1,41 @@
+#!/usr/bin/env python3
+"""Holds the pages to the tree: every file, declaration and edit that README.md and docs/ name must exist, and every edit be named.
+python3 tools/pages.py     prints what is missing, and how much; status 1 where something is."""
+import glob
+import os
+import re
+import sys
+
+os.chdir(os.path.join(os.path.dirname(os.path.abspath(__file__)), ".."))
+missing = []
+NAMES = r"((?:\s*(?:,|and|to)?\s*`[^`]+`)+)"
+FILE = r"`([a-z_]+/(?:specs|proofs|src)/[\w/]+\.(?:antt|rt))`"
+
+
+def declared(path, name):
+    word = re.escape(name.split("::")[-1].split("(")[0])
+    return re.search(r"(?<![\w-])" + word + r"(?![\w-])", open(path).read())
+
+
+def look(page):
+    text = open(page).read()
+    for path in re.findall(FILE, text):
+        if not os.path.exists("crates/" + path):
+            missing.append(f"{page}: no file {path}")
+    for path, names in re.findall(FILE + ":" + NAMES, text):
+        for name in re.findall(r"`([^`/ ]+)`", names):
+            if os.path.exists("crates/" + path) and not declared("crates/" + path, name):
+                missing.append(f"{page}: {path} has no {name}")
+    for crate, names in re.findall(r"[Ee]dit `([a-z_]+)`:" + NAMES, text):
+        for name in re.findall(r"`(\w+)`", names):
+            if crate != "crate" and not os.path.exists(f"crates/{crate}/must-fail/{name}.edit"):
+                missing.append(f"{page}: {crate} has no edit {name}")
+    return text
+
+
+said = "".join(look(page) for page in ["README.md"] + sorted(glob.glob("docs/*.md")))
+for edit in sorted(glob.glob("crates/*/must-fail/*.edit")):
+    if "`" + os.path.basename(edit)[:-5] + "`" not in said:
+        missing.append(f"no page names {edit}")
+print("\n".join(missing + [f"{len(missing)} missing"]))
+sys.exit(1 if missing else 0)
