@@ -32,7 +32,7 @@ same() {                                                             # the five 
         if [ -e "../sets/$1/$f" ]; then cmp -s "../sets/$1/$f" "$f" || return 1; else [ ! -e "$f" ] || return 1; fi
     done
 }
-total=0 bad=0 stood=0 stuck=0
+total=0 bad=0 stood=0 stuck=0 untold=0
 wrong() { bad=$((bad + 1)); echo "bad: $*: $(tr '\n' ' ' <../out)"; }
 
 # what a fault has left, in d: one of two sets of files; where STATE.done stands, a call makes it the new one (a recovery may be stopped before its own
@@ -51,6 +51,8 @@ judge() {
         same "$new" || { [ "$old" = two ] && same two; } || { wrong "$what: mixed after the recovery"; return; }
     elif ! same "$old" && ! same "$new"; then
         wrong "$what: mixed"; return
+    elif ! said 'night stop' && ! same "$old"; then
+        untold=$((untold + 1))
     fi
     rm -rf state.night
     night image evening 5000 61440 state output >../again
@@ -110,7 +112,7 @@ call=(image evening 9000 61440 state output); faults first none none one
 call=(image state.rest 14000 61440 state output); faults night one one two
 faults recovery half two three
 cleanups
-echo "faults $total bad $bad (STATE.done stood after $stood, STATE.night after $stuck)"
+echo "faults $total bad $bad (STATE.done stood after $stood, STATE.night after $stuck; all new and not told $untold)"
 
 worse=0 refused=0 followed=0
 for k in $(seq 1 100); do
@@ -144,5 +146,6 @@ done
 if ! said '^refused 34' || ! grep -q '^night stop' ../second || [ -e state.done ] || [ -e state.night ]; then
     mixed=1; echo "bad: a held call: $(cat ../out ../second)"
 fi
+[ "$(cat state.names)" = image2/output2 ] || { mixed=1; echo "bad: a held call: state.names"; }
 echo "a held call: bad $mixed"
 [ "$bad$worse$mixed" = 000 ]

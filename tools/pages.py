@@ -1,5 +1,6 @@
 #!/usr/bin/env python3
-"""Holds the pages to the tree: every file, declaration and edit that README.md and docs/ name must exist, and every edit be named.
+"""Holds README.md and docs/ to the tree: the files that they name must exist, and the declarations and edits that stand beside a
+file's or a crate's name, as in `crate`: `name`; and every edit must be named.
 python3 tools/pages.py     prints what is missing, and how much; status 1 where something is."""
 import glob
 import os
@@ -9,7 +10,7 @@ import sys
 os.chdir(os.path.join(os.path.dirname(os.path.abspath(__file__)), ".."))
 missing = []
 NAMES = r"((?:\s*(?:,|and|to)?\s*`[^`]+`)+)"
-FILE = r"`([a-z_]+/(?:specs|proofs|src)/[\w/]+\.(?:antt|rt))`"
+FILE = r"`(?:crates/)?([a-z_]+/(?:specs|proofs|src)/[\w/]+\.(?:antt|rt))`"
 
 
 def declared(path, name):
@@ -26,10 +27,11 @@ def look(page):
         for name in re.findall(r"`([^`/ ]+)`", names):
             if os.path.exists("crates/" + path) and not declared("crates/" + path, name):
                 missing.append(f"{page}: {path} has no {name}")
-    for crate, names in re.findall(r"[Ee]dit `([a-z_]+)`:" + NAMES, text):
-        for name in re.findall(r"`(\w+)`", names):
-            if crate != "crate" and not os.path.exists(f"crates/{crate}/must-fail/{name}.edit"):
-                missing.append(f"{page}: {crate} has no edit {name}")
+    for crate, names in re.findall(r"`([a-z_]+)`:" + NAMES + r"(?!\*)", text):
+        for name in re.findall(r"`([^`/ ]+)`(?!\*)", names):
+            files = glob.glob(f"crates/{crate}/*/**/*.antt", recursive=True) + glob.glob(f"crates/{crate}/src/*.rt")
+            if files and not os.path.exists(f"crates/{crate}/must-fail/{name}.edit") and not any(declared(f, name) for f in files):
+                missing.append(f"{page}: {crate} has no {name}")
     return text
 
 

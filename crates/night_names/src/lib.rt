@@ -6,7 +6,6 @@ ghost use lib.ListN.{length, take};
 ghost use Rattle.io.specs.Counts.{Counts};
 ghost use Rattle.night_names.specs.Names.{sameOf, beginsAt, lastAt, isPlace, isBeside, isWith, isOfState, isRead, areNames};
 ghost use Rattle.night_names.specs.Names.{namesOf, areRecorded, imagePlace, outputPlace, workOf};
-ghost use Rattle.night_names.specs.Names.{namesOf, areRecorded, imagePlace, outputPlace};
 
 // Whether two texts are the same.
 fn same(a: &[u8], b: &[u8]) -> bool

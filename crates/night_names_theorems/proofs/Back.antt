@@ -31,15 +31,15 @@ module _ (name : List ℕ) (p : isPlace name ≡ true) where
   part-sized : length (lastOf name) ≡ length name - lastAt name
   part-sized = length-drop (lastAt name) name
 
-  -- its folder and its last part are the name
-  whole : (state : List ℕ) → isBeside name state ≡ true → joinedOf (folderOf state) (lastOf name) 4096 ≡ name
-  unfolding isBeside
-  whole state q =
-      let s = sized in
-      let k = length-take-le (lastAt name) name (last-within name) in
-      let l = part-sized in
-      ap (λ (f : List ℕ). joinedOf f (lastOf name) 4096) (sym (same-sound (folderOf name) (folderOf state) q))
-      ∙ joins (folderOf name) (lastOf name) 4096 (let x = s .0 in let y = s .1 in omega arith) ∙ take-append-drop (lastAt name) name
+-- a name's folder and its last part are the name
+whole : (name state : List ℕ) → length name ≤ 4096 → isBeside name state ≡ true → joinedOf (folderOf state) (lastOf name) 4096 ≡ name
+unfolding isBeside
+whole name state h q =
+    let i = last-within name in
+    let k = length-take-le (lastAt name) name i in
+    let l = length-drop (lastAt name) name in
+    ap (λ (f : List ℕ). joinedOf f (lastOf name) 4096) (sym (same-sound (folderOf name) (folderOf state) q))
+    ∙ joins (folderOf name) (lastOf name) 4096 (omega arith) ∙ take-append-drop (lastAt name) name
 
 module _ (image output : List ℕ) (p : isPlace image ≡ true) (q : isPlace output ≡ true) where
   recorded : namesOf image output 4096 ≡ lastOf image ++ 47 ∷ lastOf output
@@ -59,13 +59,13 @@ module _ (image output : List ℕ) (p : isPlace image ≡ true) (q : isPlace out
   unfolding imagePlace
   image-back state e =
       ap (λ (n : List ℕ). joinedOf (folderOf state) n 4096) (ap imageIn recorded ∙ first-of-glued (lastOf image) (lastOf output) (last-plain output))
-      ∙ whole image p state e
+      ∙ whole image state (let s = sized image p .1 in omega arith) e
 
   pub output-back : (state : List ℕ) → isBeside output state ≡ true → outputPlace state (namesOf image output 4096) 4096 ≡ output
   unfolding outputPlace
   output-back state e =
       ap (λ (n : List ℕ). joinedOf (folderOf state) n 4096) (ap lastOf recorded ∙ last-of-glued (lastOf image) (lastOf output) (last-plain output))
-      ∙ whole output q state e
+      ∙ whole output state (let s = sized output q .1 in omega arith) e
 
   pub taken-back : areRecorded (namesOf image output 4096) ≡ true
   unfolding areRecorded
@@ -97,17 +97,11 @@ module _ (state folder : List ℕ) (h : length state + length folder ≤ 3840) w
       let m = length-append state folder in
       ap (λ (f : List ℕ). joinedOf f (lastOf p) 4096) (joins state folder 4096 (omega arith)) ∙ joins (state ++ folder) (lastOf p) 4096 (omega arith)
 
-  pub one-place : (p q : List ℕ) → isPlace p ≡ true → isPlace q ≡ true → isBeside p state ≡ true → isBeside q state ≡ true
-      → workOf state folder p 4096 ≡ workOf state folder q 4096 → p ≡ q
-  one-place p q a b c d e =
-      let s = sized p a in
-      let t = sized q b in
-      let j = part-sized p a in
-      let k = part-sized q b in
-      let x = s .2 in
-      let y = t .2 in
+  pub one-place : (p q : List ℕ) → length p ≤ 4096 → length q ≤ 4096 → length (lastOf p) ≤ 255 → length (lastOf q) ≤ 255
+      → isBeside p state ≡ true → isBeside q state ≡ true → workOf state folder p 4096 ≡ workOf state folder q 4096 → p ≡ q
+  one-place p q a b j k c d e =
       let f = state ++ folder in
       let same : lastOf p ≡ lastOf q =
       sym (drop-at f (lastOf p) (length f) refl)
-      ∙ ap (drop (length f)) (sym (worked p (omega arith)) ∙ e ∙ worked q (omega arith)) ∙ drop-at f (lastOf q) (length f) refl in
-      sym (whole p a state c) ∙ ap (λ (l : List ℕ). joinedOf (folderOf state) l 4096) same ∙ whole q b state d
+      ∙ ap (drop (length f)) (sym (worked p j) ∙ e ∙ worked q k) ∙ drop-at f (lastOf q) (length f) refl in
+      sym (whole p state a c) ∙ ap (λ (l : List ℕ). joinedOf (folderOf state) l 4096) same ∙ whole q state b d

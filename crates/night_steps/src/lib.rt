@@ -25,7 +25,7 @@ pub enum Op {
     SyncLast, // (h) bring STATE's folder to the device
     Placed, // the end: all new
     Refused(u8), // the end: nothing of this call's own night is left, but for a clean-up that failed
-    Stopped(u8), // the end for now: the next call goes on from STATE.done, or the commit failed
+    Stopped(u8), // the end for now: the next call goes on from STATE.done where it stands; or the commit failed
 }
 
 fn choose(ok: bool, yes: Op, no: Op) -> Op
