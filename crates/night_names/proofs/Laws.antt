@@ -16,30 +16,6 @@ use Rattle.printing.specs.Printing.{ascii}
 use Rattle.night_arguments.specs.Arguments.{joinedOf}
 use Rattle.night_names.specs.Names.{sameOf, beginsAt, lastFrom, lastAt, outputPlace, imagePlace, namesOf, workOf}
 
-pub same-length : (a b : List ℕ) → length a ≢ length b → sameOf a b ≡ false
-unfolding sameOf
-same-length [] [] n = absurd (n refl)
-same-length [] (y ∷ ys) n = refl
-same-length (x ∷ xs) [] n = refl
-same-length (x ∷ xs) (y ∷ ys) n = go (eqb x y) (same-length xs ys (λ e. n (ap suc e)))
-  where
-    go : (t : Bool) → sameOf xs ys ≡ false → (t && sameOf xs ys) ≡ false
-    go true e = e
-    go false e = refl
-
-module _ (a b : List ℕ) (i : ℕ) (h : i < length a) (k : i < length b) where
-  pub same-next : getD a i 0 ≡ getD b i 0 → sameOf (drop i a) (drop i b) ≡ sameOf (drop (i + 1) a) (drop (i + 1) b)
-  unfolding sameOf
-  same-next e = rw (add-one, drop-cons a i 0 h, drop-cons b i 0 k, eq-eqb _ _ e)
-
-  pub same-differ : getD a i 0 ≢ getD b i 0 → sameOf (drop i a) (drop i b) ≡ false
-  unfolding sameOf
-  same-differ n = rw (drop-cons a i 0 h, drop-cons b i 0 k, ne-eqb _ _ n)
-
-pub same-end : (a b : List ℕ) (i : ℕ) → length a ≤ i → length b ≤ i → sameOf (drop i a) (drop i b) ≡ true
-unfolding sameOf
-same-end a b i h k = rw (drop-of-length-le a h, drop-of-length-le b k)
-
 pub last-next : (l : List ℕ) (i at : ℕ) → i < length l → lastFrom i at (drop i l) ≡ lastFrom (i + 1) (beginsAt (getD l i 0) (i + 1) at) (drop (i + 1) l)
 unfolding lastFrom
 last-next l i at h =

@@ -7,13 +7,6 @@ use lib.ListN.{length, take, drop}
 use Rattle.printing.specs.Printing.{ascii}
 use Rattle.night_arguments.specs.Arguments.{joinedOf}
 
--- two texts are the same
-unfoldable pub sameOf : List ℕ → List ℕ → Bool
-sameOf [] [] = true
-sameOf [] (y ∷ ys) = false
-sameOf (x ∷ xs) [] = false
-sameOf (x ∷ xs) (y ∷ ys) = eqb x y && sameOf xs ys
-
 -- where a name's last part begins, after its last `/` (47): i bytes are looked at, and it begins at `at` as far as these tell
 abbrev pub beginsAt : ℕ → ℕ → ℕ → ℕ
 beginsAt byte behind at = cond (eqb byte 47) behind at

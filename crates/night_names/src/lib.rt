@@ -7,23 +7,6 @@ ghost use Rattle.io.specs.Counts.{Counts};
 ghost use Rattle.night_names.specs.Names.{sameOf, beginsAt, lastAt, isPlace, isBeside, isWith, isOfState, isRead, areNames};
 ghost use Rattle.night_names.specs.Names.{namesOf, areRecorded, imagePlace, outputPlace, workOf};
 
-// Whether two texts are the same.
-fn same(a: &[u8], b: &[u8]) -> bool
-    ensures { λ r. ⌜ r ≡ sameOf (now (a .entry)) (now (b .entry)) ⌝ }
-{
-    if a.len() != b.len() {
-        return false;
-    }
-    let mut i = 0usize;
-    while i < a.len() {
-        if a[i] != b[i] {
-            return false;
-        }
-        i = i + 1;
-    }
-    true
-}
-
 // Where a name's last part begins, once a byte more was looked at: behind it if it is a `/`.
 fn begins(byte: u8, behind: usize, at: usize) -> usize
     ensures { λ r. ⌜ r ≡ beginsAt byte behind at ⌝ }
