@@ -117,6 +117,7 @@ fn give(kind: u8, value: u8, values: &mut [u8]) -> bool
 // Where six names begin behind the first `at` of so many arguments, counted from 1; or 0.
 fn names_from(count: usize, at: usize) -> usize
     requires { ⌜ at ≤ count ⌝ }
+    ensures { λ r. ⌜ r ≤ count ⌝ }
     ensures { λ r. ⌜ r ≡ namesFrom count at ⌝ }
 {
     if count - at != 6 {
@@ -127,7 +128,7 @@ fn names_from(count: usize, at: usize) -> usize
 
 // Where a call's six names begin, counted from 1, by the kinds of its arguments; 0 where they are none of a call. Each option's value is told by its
 // number in `values`, which are 0 at the start.
-pub fn read_call(kinds: &[u8], values: &mut [u8]) -> usize
+pub fn read_call(kinds: &[u8], values: &mut [u8]) -> u8
     ensures { λ r. ⌜ callOf (now (kinds .entry)) (now (values .entry)) ≡ told r (now (values .exit)) ⌝ }
 {
     if 32 < kinds.len() {
@@ -137,10 +138,10 @@ pub fn read_call(kinds: &[u8], values: &mut [u8]) -> usize
     while i + 1 < kinds.len() {
         let kind = kinds[i];
         if kind == 0 {
-            return names_from(kinds.len(), i);
+            return names_from(kinds.len(), i) as u8;
         }
         if kind == 1 {
-            return names_from(kinds.len(), i + 1);
+            return names_from(kinds.len(), i + 1) as u8;
         }
         if !give(kind, (i + 2) as u8, values) {
             return 0;

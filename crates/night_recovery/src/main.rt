@@ -276,14 +276,23 @@ fn further() {
 fn show_call(word: &[u8], kinds: &[u8]) {
     let mut values = [0u8; 1];
     let names = night_arguments::read_call(kinds, &mut values);
-    Line::empty().text(word).text(b": names ").decimal(names as u64).print();
+    Line::empty()
+        .text(word)
+        .text(b": names ")
+        .decimal(names as u64)
+        .print();
     show_number(b" log ", values[0]);
     Line::empty().text(b"\n").print();
 }
 
 fn show_kind(text: &[u8]) {
     let kind = night_arguments::kind_of(text);
-    Line::empty().text(text).text(b": ").decimal(kind as u64).text(b"\n").print();
+    Line::empty()
+        .text(text)
+        .text(b": ")
+        .decimal(kind as u64)
+        .text(b"\n")
+        .print();
 }
 
 fn kinds() {

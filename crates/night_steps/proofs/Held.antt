@@ -181,9 +181,11 @@ makes n k i own true w (o, l, p, h, z) =
     (follows Q (write at one i) (fsync-file at one i ∷ []) w₁
     (both (may write (w .home)) (tests (asks write) (one i) f₁) p (mid-ask write made fresh saved (λ f t. t) (λ f. tt) i f₁ h₁))
     (follows Q (fsync-file at one i) [] w₂
-    (both (may fsync-file (w .home)) (tests (asks fsync-file) (one i) f₂) p (mid-ask fsync-file written fresh saved (λ f t. t) (λ f. tt) i f₂ h₂))
-    (tt, next-file (λ op. Held n k own op w₃) n i (Make (i + 1)) SyncNight (λ g. (o, g, p, one-more i fresh saved f₃ h₃, z₃))
-    (λ g. (o, p, all-done n i fresh saved f₃ l g z₃ h₃, z₃)))))
+    (both (may fsync-file (w .home)) (tests (asks fsync-file) (one i) f₂) p (mid-ask fsync-file written fresh saved (λ f t. t) (λ f. tt) i f₂ h₂)) (
+      tt,
+      next-file (λ op. Held n k own op w₃) n i (Make (i + 1)) SyncNight (λ g. (o, g, p, one-more i fresh saved f₃ h₃, z₃))
+          (λ g. (o, p, all-done n i fresh saved f₃ l g z₃ h₃, z₃)),
+    )))
 makes n k i own false w (o, l, p, h, z) =
     let h₀ = from-half i fresh saved (w .files) h in
     follows (Held n k own (Unlink 0)) (create at one i) (fail at none ∷ []) w
@@ -201,10 +203,12 @@ puts n k i own w (b, l, p, h, z) =
     let z₁ = changes-sized n (does put) (one i) f₀ z in
     let w₁ : Disk = forced (put at one i) w in
     follows (Held n k own (nextOp n (Put i) true own)) (put at one i) [] w
-    (both (may put (w .home)) (tests (asks put) (one i) f₀) p (mid-ask put saved saved moved (λ f t. t) (λ f. tt) i f₀ h₀))
-    (tt, next-file (λ op. Held n k own op w₁) n i (Put (i + 1)) SyncPlaces
-    (λ g. (within own k (n - i + 6) (n - (i + 1) + 6) (omega arith) b, g, p, one-more i saved moved f₁ h₁, z₁))
-    (λ g. (within own k (n - i + 6) 6 (omega arith) b, p, all-done n i saved moved f₁ l g z₁ h₁)))
+    (both (may put (w .home)) (tests (asks put) (one i) f₀) p (mid-ask put saved saved moved (λ f t. t) (λ f. tt) i f₀ h₀)) (
+      tt,
+      next-file (λ op. Held n k own op w₁) n i (Put (i + 1)) SyncPlaces
+          (λ g. (within own k (n - i + 6) (n - (i + 1) + 6) (omega arith) b, g, p, one-more i saved moved f₁ h₁, z₁))
+          (λ g. (within own k (n - i + 6) 6 (omega arith) b, p, all-done n i saved moved f₁ l g z₁ h₁)),
+    )
 
 -- one operation, whatever the answer
 pub held : (n k : ℕ) → 0 < n → (own ok : Bool) (op : Op) (w : Disk) → Held n (suc k) own op w

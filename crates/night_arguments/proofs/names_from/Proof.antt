@@ -1,4 +1,5 @@
 -- By the test. Assumes nothing.
+use native.Mathlib.Omega.{arith}
 use borrow.Author.Needs.{needs}
 use Rattle.night_arguments.proofs.Calls.{no-six, six}
 use Rattle.night_arguments.proofs.names_from.Statement.{statement}
@@ -9,6 +10,6 @@ names-from-spec =
     tie.close
     (tie.spec
     (λ c. search needs)  -- sub-if1
-    (λ c. no-six (c .before .args .count) (c .before .args .at) (c .before .pre) (c .if1 .taken))  -- returns
+    (λ c. (omega arith, no-six (c .before .args .count) (c .before .args .at) (c .before .pre) (c .if1 .taken)))  -- returns
     (λ c. search needs)  -- add-result
-    (λ c. six (c .before .args .count) (c .before .args .at) (c .before .pre) (c .if1 .left)))  -- returns-2
+    (λ c. (omega arith, six (c .before .args .count) (c .before .args .at) (c .before .pre) (c .if1 .left))))  -- returns-2

@@ -24,13 +24,13 @@ returns-2 : tie.Need-returns-2 Inv-loop μ-loop
 returns-2 c =
     let l = c .before .before .before .before .loop in
     let k = c .before .before .before .before .before .before .before .before .args .kinds .now in
-    rw (c .names-from .ensures) (l .inv .3 ∙ call-names k (l .values) (length k) (l .i) (c .before .before .before .loop-test .taken) (c .before .if2 .taken))
+    rw (c .names-from .ensures .1) (l .inv .3 ∙ call-names k (l .values) (length k) (l .i) (c .before .before .before .loop-test .taken) (c .before .if2 .taken))
 
 returns-3 : tie.Need-returns-3 Inv-loop μ-loop
 returns-3 c =
     let l = c .before .before .before .before .before .loop in
     let k = c .before .before .before .before .before .before .before .before .before .args .kinds .now in
-    rw (c .names-from2 .ensures) (l .inv .3 ∙ call-ended k (l .values) (length k) (l .i) (c .before .before .before .before .loop-test .taken) (c .before .before .if2 .left) (c .before .if3 .taken))
+    rw (c .names-from2 .ensures .1) (l .inv .3 ∙ call-ended k (l .values) (length k) (l .i) (c .before .before .before .before .loop-test .taken) (c .before .before .if2 .left) (c .before .if3 .taken))
 
 returns-4 : tie.Need-returns-4 Inv-loop μ-loop
 returns-4 c =
@@ -63,10 +63,12 @@ read-call-spec =
     (λ c. search needs)  -- add-loop
     (λ c. search needs)  -- shared-slice-read-kind
     (λ c κs. search needs)  -- names-from-requires
+    (λ c. let h = c .before .before .before .before .loop .inv .0 in let g = c .names-from .ensures .0 in search needs)  -- cast-result
     (λ c. search needs)  -- same-length
     returns-2
     (λ c. search needs)  -- add-names-from
     (λ c κs. search needs)  -- names-from-requires-2
+    (λ c. let h = c .before .before .before .before .before .loop .inv .0 in let g = c .names-from2 .ensures .0 in search needs)  -- cast-result-2
     (λ c. search needs)  -- same-length-2
     returns-3
     (λ c. search needs)  -- add-give

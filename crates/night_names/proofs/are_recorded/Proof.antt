@@ -9,6 +9,6 @@ unfolding areRecorded
 are-recorded-spec =
     tie.close
     (tie.spec
-    (λ c κs. search needs) -- files-requires
-    (λ c κs. search needs) -- none-empty-requires
+    (λ c κs. search needs)  -- files-requires
+    (λ c κs. search needs)  -- none-empty-requires
     (λ c. rw (c .before .files .ensures, c .none-empty .ensures)))  -- returns

@@ -11,15 +11,15 @@ unfolding isFurther
 is-further-spec =
     tie.close
     (tie.spec
-    (λ c κs. search needs) -- last-at-requires
-    (λ c κs. search needs) -- is-place-requires
-    (λ c κs. search needs) -- is-beside-requires
-    (λ c κs. search needs) -- is-of-state-requires
-    (λ c κs. search needs) -- same-requires
-    (λ c. search needs) -- sub-is-among
-    (λ c. search needs) -- part-is-among-start
-    (λ c. search needs) -- part-is-among-end
-    (λ c κs. search needs) -- is-among-requires
+    (λ c κs. search needs)  -- last-at-requires
+    (λ c κs. search needs)  -- is-place-requires
+    (λ c κs. search needs)  -- is-beside-requires
+    (λ c κs. search needs)  -- is-of-state-requires
+    (λ c κs. search needs)  -- same-requires
+    (λ c. search needs)  -- sub-is-among
+    (λ c. search needs)  -- part-is-among-start
+    (λ c. search needs)  -- part-is-among-end
+    (λ c κs. search needs)  -- is-among-requires
     (λ c. rw (
       c .before .before .before .before .before .is-place .ensures,
       c .before .before .before .before .is-beside .ensures,

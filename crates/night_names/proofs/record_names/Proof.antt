@@ -9,10 +9,10 @@ pub record-names-spec : {M : Type 1} → statement M
 record-names-spec =
     tie.close
     (tie.spec
-    (λ c κs. search needs) -- last-at-requires
-    (λ c. search needs) -- sub-with-name
-    (λ c. search needs) -- part-with-name-start
-    (λ c. search needs) -- part-with-name-end
-    (λ c κs. search needs) -- with-name-requires
-    (λ c. search needs) -- same-length
+    (λ c κs. search needs)  -- last-at-requires
+    (λ c. search needs)  -- sub-with-name
+    (λ c. search needs)  -- part-with-name-start
+    (λ c. search needs)  -- part-with-name-end
+    (λ c κs. search needs)  -- with-name-requires
+    (λ c. search needs)  -- same-length
     (λ c. (c .before .before .with-name .ensures .0, c .before .before .with-name .ensures .1 ∙ names-is _ _ _ (c .before .before .before .before .before .last-at .ensures .1))))  -- returns
