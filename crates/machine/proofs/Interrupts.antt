@@ -1,14 +1,20 @@
--- The pending cause is the first in 01's order whose condition holds; none is pending where none holds. Assumes nothing.
+-- The pending cause is the first in 01's order whose condition holds; none is pending where none holds. Those behind it are all the
+-- others that hold. Assumes nothing.
+use Prim.Native.Nat.{ℕ, _^_, _≤_}
+use native.Mathlib.Omega.{arith}
 use mathlib.Core.Path.{_≡_, refl, ap, _∙_}
-use mathlib.Core.Bool.{Bool, true, false, cond}
+use mathlib.Core.Bool.{Bool, true, false, not, cond, _&&_}
 use mathlib.Core.Logic.{_↔_}
 use mathlib.Core.List.{List, [], _∷_, _++_}
 use Rattle.laws.proofs.Apart.{apart}
+use Rattle.bits.specs.Bits.{bit}
+use Rattle.bits.proofs.Bytes.{bits-kept}
 use Rattle.machine.specs.declared.Machine.{Machine}
 use Rattle.machine.specs.declared.Cause.{Cause}
+use Rattle.machine.specs.declared.Cause.the-variants.{Nmi, Irq1, Icf, Ocf, Tof, Serial}
 use Rattle.machine.specs.declared.Pending.{Pending}
 use Rattle.machine.specs.declared.Pending.the-variants.{Nothing, Due}
-use Rattle.machine.specs.Interrupts.{holds, causes, firstCause, pendingOf}
+use Rattle.machine.specs.Interrupts.{holds, causes, firstCause, pendingOf, causeNumber, holdsBehind, behindOf}
 
 -- none of some causes holds
 abbrev pub None : List Cause → Machine → Type 0
@@ -60,3 +66,18 @@ pending-first m k =
 pub pending-none : (m : Machine) → (pendingOf m ≡ Nothing) ↔ None causes m
 unfolding pendingOf
 pending-none m = (nothing causes m, quiet causes m)
+
+-- bit k of the mask is set exactly where cause k holds and is not the one accepted
+pub behind-bits : (cause other : Cause) (m : Machine) → bit (behindOf cause m) (2 ^ causeNumber other) ≡ holdsBehind cause other m
+behind-bits cause other m = by other
+  where
+    abbrev of : Cause → Bool
+    of k = holdsBehind cause k m
+
+    by : (other : Cause) → bit (behindOf cause m) (2 ^ causeNumber other) ≡ of other
+    by Nmi = bits-kept (of Nmi) (of Irq1) (of Icf) (of Ocf) (of Tof) (of Serial) false false .0
+    by Irq1 = bits-kept (of Nmi) (of Irq1) (of Icf) (of Ocf) (of Tof) (of Serial) false false .1
+    by Icf = bits-kept (of Nmi) (of Irq1) (of Icf) (of Ocf) (of Tof) (of Serial) false false .2
+    by Ocf = bits-kept (of Nmi) (of Irq1) (of Icf) (of Ocf) (of Tof) (of Serial) false false .3
+    by Tof = bits-kept (of Nmi) (of Irq1) (of Icf) (of Ocf) (of Tof) (of Serial) false false .4
+    by Serial = bits-kept (of Nmi) (of Irq1) (of Icf) (of Ocf) (of Tof) (of Serial) false false .5
