@@ -5,6 +5,7 @@ use mathlib.Core.Bool.{true, _&&_}
 use mathlib.Core.List.{List, [], _∷_, _++_, append-assoc, append-nil}
 use mathlib.Core.Path.{_≡_, refl, sym, ap, _∙_}
 use lib.ListN.{length, take, drop, getD, length-append, length-drop, drop-of-length-le, List·getD-append}
+use lib.Pow.{pow-pos}
 use lib.Seq.{take-all, take-at, drop-at, drop-drop, length-take-le, getD-append-add}
 use borrow.Author.Tests.{leb-true}
 use Rattle.numbers.specs.Numbers.{byteAt, littleEndian, over}
@@ -36,13 +37,7 @@ step-of (suc (suc (suc (suc (suc zero))))) h = refl
 step-of (suc (suc (suc (suc (suc (suc k)))))) h = absurd (let z : ⊥ = omega (arith, h) in z)
 
 pub step-positive : (k : ℕ) → k ≤ 5 → 0 < (2 * 2 ^ k) % 256
-step-positive zero h = omega arith
-step-positive (suc zero) h = omega arith
-step-positive (suc (suc zero)) h = omega arith
-step-positive (suc (suc (suc zero))) h = omega arith
-step-positive (suc (suc (suc (suc zero)))) h = omega arith
-step-positive (suc (suc (suc (suc (suc zero))))) h = omega arith
-step-positive (suc (suc (suc (suc (suc (suc k)))))) h = absurd (let z : ⊥ = omega (arith, h) in z)
+step-positive k h = rw (step-of k h) (pow-pos (k + 1))
 
 pub room : (rows : ℕ) (log : List ℕ) → fitsRow log rows ≡ true → 8 * rows + 8 ≤ length log
 room rows log fits = leb-true _ _ fits
