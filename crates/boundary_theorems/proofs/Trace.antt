@@ -29,7 +29,7 @@ use Rattle.laws.proofs.Conds.{cases}
 use Rattle.boundary.proofs.Feeding.{records-more, records-done, records-keep}
 use Rattle.boundary.proofs.Runs.{run-falls}
 use Rattle.boundary_theorems.specs.Trace.{Taken, entry, waitingCycle, instruction, isEntry, isInstruction, stepBy, takenBy}
-use Rattle.boundary_theorems.specs.Trace.{TraceMark, markOf, markIf, marksAt, traceOf, waits, stretchesOf, entriesOf, instructionsOf}
+use Rattle.boundary_theorems.specs.Trace.{TraceMark, markOf, ifGoing, marksAt, traceOf, waits, stretchesOf, entriesOf, instructionsOf}
 use Rattle.boundary_theorems.proofs.Stretches.{leaps-none, lastWaits, last-snoc, opens, leaps-snoc}
 
 -- the counts of a state are those of the marks so far
@@ -168,7 +168,7 @@ module _ (t : Terms) where
 
   -- with no mark at the last
   marked : (ms : List TraceMark) (m : TraceMark) (x : Turn World Ended) → Marked ms m x
-      → Then (λ v. Follows (ms ++ markIf x m) true (v .state)) (λ e. Counted (ms ++ markIf x m) (e .world .state)) x
+      → let l = ms ++ ifGoing x (m ∷ []) in Then (λ v. Follows l true (v .state)) (λ e. Counted l (e .world .state)) x
   marked ms m (more v) h = h
   marked ms m (done e) h = subst (λ (l : List TraceMark). Counted l (e .world .state)) (sym (append-nil ms)) h
 
