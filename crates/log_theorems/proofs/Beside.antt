@@ -3,7 +3,7 @@
 use Prim.Native.Nat.{ℕ, _+_, _*_, _≤_}
 use native.Mathlib.Omega.{arith}
 use mathlib.Core.Path.{_≡_, refl, sym, ap, subst, _∙_}
-use mathlib.Core.Bool.{Bool, true, false, not, cond, _&&_}
+use mathlib.Core.Bool.{Bool, true, false, not, cond, _&&_, false≢true}
 use mathlib.Core.List.{List, [], _∷_, _++_, append-assoc, append-nil}
 use lib.Dec.{leb}
 use lib.ListN.{length, length-append, take-append-drop}
@@ -212,6 +212,15 @@ module _ (t : Terms) (b₁ b₂ : Bool) (k : ℕ) (l₁ l₂ : List ℕ) where
       by false e true f false =
           act-goes rows (sentWorld r) (record { entries = fed .entries; room = fed .room; same = fed .same }) (sent-ready t w (leb-false _ _ e))
       by false e false f full = act-goes rows r fed (fed-ready t w (leb-false _ _ e) f)
+
+-- of one run alone: a boundary that goes on writes its row
+pub turn-written : (t : Terms) (k : ℕ) (log : List ℕ) (rows : List Row) (v u : World) → Written (t .watch .log) k log rows v → boundaryOf t v ≡ more u
+    → Written (t .watch .log) k log (rows ++ wakeOf (t .watch) (readyState (t .session) v)) u
+turn-written t k log rows v u h e =
+    let s = readyState (t .session) v in
+    let y = boundaryOf (logging false t) (relogged (loggedRows false k rows []) v) in
+    subst (λ (x : Turn World Ended). Goes t (t .watch .log) false k log [] rows (wakeOf (t .watch) s) s x y) e
+    (turn-goes t (t .watch .log) false k log [] rows v h) (λ a. absurd (false≢true a)) .0
 
 logged-none : (asked : Bool) (k : ℕ) (log : List ℕ) → loggedRows asked k [] log ≡ log
 logged-none true k log = take-append-drop (8 * k) log
