@@ -226,6 +226,15 @@ logged-none : (asked : Bool) (k : ℕ) (log : List ℕ) → loggedRows asked k [
 logged-none true k log = take-append-drop (8 * k) log
 logged-none false k log = refl
 
+pub start-written : (asked : Bool) (w : World) → (asked ≡ true → 8 * w .state .entries .0 ≤ length (w .lent .log))
+    → Written asked (w .state .entries .0) (w .lent .log) [] w
+start-written asked w room =
+    record {
+      entries = omega arith;
+      room = λ a. let z = room a in omega (arith, z);
+      same = sym (logged-none asked (w .state .entries .0) (w .lent .log));
+    }
+
 -- The second run, with this log, beside the first.
 module _ (t : Terms) (b₁ b₂ : Bool) (w : World) (l₂ : List ℕ) where
   abbrev first : Terms
@@ -327,11 +336,7 @@ module _ (t : Terms) (b₁ b₂ : Bool) (w : World) (l₂ : List ℕ) where
     follows room =
         rows-keep (boundaryOf first) _ _ (run-falls first) (wakesAt first) So Follows turn-follows [] w
         (record {
-          written = record {
-            entries = omega arith;
-            room = λ a. let z = room a in omega (arith, z);
-            same = sym (logged-none b₁ (w .state .entries .0) (w .lent .log));
-          };
+          written = start-written b₁ w room;
           here = refl;
           passes =
               let e = sym (logged-none b₂ (w .state .entries .0) l₂) in
