@@ -111,8 +111,11 @@ module _ (before : List Row) (row : Row) (rest : List ℕ) where
   unfolding withRow
   again =
       let l = rows-long before in
-      rw (take-at (rowsBytes before) (rowBytes row ++ rest) (8 * length before) l, drop-at (rowsBytes before) (rowBytes row ++ rest) (8 * length before) l,
-      drop-append-seam (rowBytes row) rest)
+      rw (
+        take-at (rowsBytes before) (rowBytes row ++ rest) (8 * length before) l,
+        drop-at (rowsBytes before) (rowBytes row ++ rest) (8 * length before) l,
+        drop-append-seam (rowBytes row) rest,
+      )
 
   there : row .cycle < 4294967296 → isWake row ≡ true → (rowAt bytes (length before) ≡ row) × (isRow bytes (length before) ≡ true)
   there c w = (

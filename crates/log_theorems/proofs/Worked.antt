@@ -42,6 +42,10 @@ asker = onBus (start true) (writeOf 0x13 0x41 (readOf (memories []) 0x11 (writeO
 abbrev asked : List ℕ → ℕ → ℕ → Terms
 asked session n since = watching session n (record { log = true; since = record { 0 = since } })
 
+-- an NMI and IRQ1 low where it starts
+abbrev both : Terms
+both = asked (irq1At 0 ++ nmiAt 0) 4 0
+
 abbrev ran : Terms → Machine → List ℕ → Ended
 ran t m log = ranOf t m (lending blank (7 ∷ []) log)
 
@@ -50,7 +54,15 @@ logOf e = e .world .lent .log
 
 abbrev pub table : List Row
 table =
-    (logOf (ran (asked (irq1At 0 ++ nmiAt 0) 4 0) (start true) (replicate 12 9)) is 0 ∷ 0 ∷ 0 ∷ 0 ∷ 0 ∷ 2 ∷ 0 ∷ 0 ∷ 9 ∷ 9 ∷ 9 ∷ 9 ∷ [])  -- NMI behind it IRQ1
+    (logOf (ran both (start true) (replicate 12 9)) is 0 ∷ 0 ∷ 0 ∷ 0 ∷ 0 ∷ 2 ∷ 0 ∷ 0 ∷ 9 ∷ 9 ∷ 9 ∷ 9 ∷ [])  -- NMI, behind it IRQ1; the bytes after the row
+    ∷ (told (ran both (start true) (replicate 12 9)) is 0 ∷ 4 ∷ 0 ∷ 1 ∷ 2 ∷ 0 ∷ 0 ∷ 0 ∷ [])
+    ∷ (told (ran both (start true) (replicate 7 9)) is 11 ∷ 0 ∷ 0 ∷ 0 ∷ 2 ∷ 0 ∷ 0 ∷ 4 ∷ [])  -- no room: 11, the records applied, nothing entered
+    ∷ (logOf (ran both (start true) (replicate 7 9)) is replicate 7 9)
+    ∷ (rowsBytes (wakesOf (terms (irq1At 0 ++ nmiAt 0) 4) (startWorld (start true) (lending blank [] []))) is 0 ∷ 0 ∷ 0 ∷ 0 ∷ 0 ∷ 2 ∷ 0 ∷ 0 ∷ [])  -- the wake that no log was asked for
+    ∷ (logOf (ran (asked (irq1At 0 ++ nmiAt 12) 24 0) (start false) (replicate 16 9))  -- IRQ1 at 0, and with I set NMI at 12
+    is 0 ∷ 0 ∷ 0 ∷ 0 ∷ 1 ∷ 0 ∷ 0 ∷ 0 ∷ 12 ∷ 0 ∷ 0 ∷ 0 ∷ 0 ∷ 0 ∷ 0 ∷ 0 ∷ [])
+    ∷ (told (ran (asked (irq1At 0 ++ nmiAt 12) 24 0) (start false) (replicate 15 9)) is 11 ∷ 12 ∷ 0 ∷ 1 ∷ 2 ∷ 0 ∷ 0 ∷ 0 ∷ [])  -- room for the first alone
+    ∷ (logOf (ran (asked (irq1At 0) 1 1000) asker (replicate 8 9)) is 232 ∷ 3 ∷ 0 ∷ 0 ∷ 1 ∷ 32 ∷ 0 ∷ 0 ∷ [])  -- after 1,000 cycles; behind IRQ1 serial: TDRE is set in step 3
     ∷ []
 
 pub worked : map found table ≡ map meant table
