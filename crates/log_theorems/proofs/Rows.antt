@@ -1,11 +1,11 @@
 -- Each row of a log is the row of a boundary that the run passes, and is read back from the log at the end. Assumes nothing.
-use Prim.Native.Nat.{ℕ, zero, suc, _+_, _*_, _%_, _^_, _≤_, _<_}
+use Prim.Native.Nat.{ℕ, zero, suc, _+_, _*_, _≤_, _<_}
 use native.Mathlib.Omega.{arith}
 use mathlib.Core.Path.{_≡_, refl, sym, ap, subst, _∙_}
 use mathlib.Core.Bool.{Bool, true, false}
 use mathlib.Core.List.{List, [], _∷_, _++_, append-assoc, append-nil}
 use lib.Dec.{leb}
-use lib.ListN.{length, take, drop, length-append}
+use lib.ListN.{length, drop, length-append}
 use lib.Seq.{take-at, drop-at, drop-append-seam}
 use borrow.Author.Tests.{le-leb, leb-true, leb-false}
 use Rattle.turns.specs.Turn.{Turn, more, done, Then}
@@ -27,9 +27,9 @@ use Rattle.boundary.specs.Start.{startWorld, ranOf}
 use Rattle.boundary.proofs.Cases.{at-limit}
 use Rattle.boundary.proofs.Runs.{run-falls, run-more}
 use Rattle.boundary_theorems.specs.Trace.{readyState, ifGoing}
-use Rattle.log_theorems.specs.Wakes.{rowBy, wakeOf, wakesAt, wakesOf, rowsBytes, loggedRows}
+use Rattle.log_theorems.specs.Wakes.{rowBy, wakeOf, wakesAt, wakesOf, rowsBytes}
 use Rattle.log_theorems.proofs.Bytes.{rows-long, rows-append}
-use Rattle.log_theorems.proofs.Beside.{Written, start-written, turn-written}
+use Rattle.log_theorems.proofs.Boundaries.{Written, start-written, turn-written}
 use Rattle.log_theorems.proofs.Wakes.{Tells, row-tells}
 use Rattle.log_theorems.proofs.Log.{rows-entries, log-left}
 

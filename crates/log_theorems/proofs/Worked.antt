@@ -1,7 +1,7 @@
 -- Runs with the wake log worked by the definitions: the rows' bytes, the bytes after them, and the stop with 11. Assumes nothing.
 use Prim.Native.Nat.{ℕ}
 use mathlib.Core.Path.{_≡_, refl}
-use mathlib.Core.Bool.{Bool, true, false}
+use mathlib.Core.Bool.{true, false}
 use mathlib.Core.List.{List, [], _∷_, _++_, map}
 use lib.ListN.{replicate}
 use Rattle.turns.specs.Turn.{turns, loopOf}
@@ -58,11 +58,12 @@ table =
     ∷ (told (ran both (start true) (replicate 12 9)) is 0 ∷ 4 ∷ 0 ∷ 1 ∷ 2 ∷ 0 ∷ 0 ∷ 0 ∷ [])
     ∷ (told (ran both (start true) (replicate 7 9)) is 11 ∷ 0 ∷ 0 ∷ 0 ∷ 2 ∷ 0 ∷ 0 ∷ 4 ∷ [])  -- no room: 11, the records applied, nothing entered
     ∷ (logOf (ran both (start true) (replicate 7 9)) is replicate 7 9)
-    ∷ (rowsBytes (wakesOf (terms (irq1At 0 ++ nmiAt 0) 4) (startWorld (start true) (lending blank [] []))) is 0 ∷ 0 ∷ 0 ∷ 0 ∷ 0 ∷ 2 ∷ 0 ∷ 0 ∷ [])  -- the wake that no log was asked for
+    ∷ (rowsBytes (wakesOf (terms (irq1At 0 ++ nmiAt 0) 4) (startWorld (start true) (lending blank [] [])))  -- the same entry, with no log asked for
+    is 0 ∷ 0 ∷ 0 ∷ 0 ∷ 0 ∷ 2 ∷ 0 ∷ 0 ∷ [])
     ∷ (logOf (ran (asked (irq1At 0 ++ nmiAt 12) 24 0) (start false) (replicate 16 9))  -- IRQ1 at 0, and with I set NMI at 12
     is 0 ∷ 0 ∷ 0 ∷ 0 ∷ 1 ∷ 0 ∷ 0 ∷ 0 ∷ 12 ∷ 0 ∷ 0 ∷ 0 ∷ 0 ∷ 0 ∷ 0 ∷ 0 ∷ [])
     ∷ (told (ran (asked (irq1At 0 ++ nmiAt 12) 24 0) (start false) (replicate 15 9)) is 11 ∷ 12 ∷ 0 ∷ 1 ∷ 2 ∷ 0 ∷ 0 ∷ 0 ∷ [])  -- room for the first alone
-    ∷ (logOf (ran (asked (irq1At 0) 1 1000) asker (replicate 8 9)) is 232 ∷ 3 ∷ 0 ∷ 0 ∷ 1 ∷ 32 ∷ 0 ∷ 0 ∷ [])  -- after 1,000 cycles; behind IRQ1 serial: TDRE is set in step 3
+    ∷ (logOf (ran (asked (irq1At 0) 1 1000) asker (replicate 8 9)) is 232 ∷ 3 ∷ 0 ∷ 0 ∷ 1 ∷ 32 ∷ 0 ∷ 0 ∷ [])  -- after 1,000 cycles; TDRE, set in step 3, behind IRQ1
     ∷ []
 
 pub worked : map found table ≡ map meant table
