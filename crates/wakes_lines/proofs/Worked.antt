@@ -1,6 +1,6 @@
 -- A row's line, computed by the definitions: the published ones, and every cause behind the first. Assumes nothing.
 use Prim.Native.Nat.{ℕ}
-use mathlib.Core.List.{List, [], _∷_}
+use mathlib.Core.List.{[], _∷_}
 use mathlib.Core.Path.{_≡_, refl}
 use Rattle.printing.specs.Printing.{ascii, decimalFrom}
 use Rattle.wake_log.specs.declared.Row.{Row}

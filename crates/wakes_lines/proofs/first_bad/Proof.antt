@@ -37,5 +37,8 @@ first-bad-spec =
     (λ c. (c .before .before .before .loop .inv .0, c .before .before .before .loop .inv .1, λ h. sym (c .before .is-row .ensures) ∙ not-true _ (c .if1 .taken)))  -- returns
     (λ c. search needs)  -- add-k
     (λ c. search needs)  -- loop-less
-    (λ c. (search needs, one-more (c .before .before .before .before .before .args .log .now) (c .before .before .before .loop .k) (c .before .before .before .loop .inv .1) (sym (c .before .is-row .ensures) ∙ not-false _ (c .if1 .left))))  -- loop-again
+    (λ c.
+    let l = c .before .before .before .loop in
+    let good = sym (c .before .is-row .ensures) ∙ not-false _ (c .if1 .left) in
+    (search needs, one-more (c .before .before .before .before .before .args .log .now) (l .k) (l .inv .1) good))  -- loop-again
     (λ c. (omega arith, λ j h. c .before .loop .inv .1 j (omega (arith, h, c .loop-test .left)), λ h. absurd (let z : ⊥ = omega (arith, h) in z))))  -- returns-2

@@ -18,5 +18,6 @@ wake-line-spec =
     (λ c. search needs)  -- slice-aggregate-text
     (λ c κs. search needs)  -- text-requires
     (λ c.
-    rw (← c .before .before .before .before .before .before .empty .ensures)
-    (puts-then _ _ _ (puts-then _ _ _ (puts-then _ _ _ (c .before .before .before .before .decimal .ensures) (c .before .before .before .named .ensures)) (c .before .before .behind .ensures)) (c .text .ensures))))  -- returns
+    let c0 = c .before .before .before .before in
+    let l = puts-then _ _ _ (c0 .decimal .ensures) (c .before .before .before .named .ensures) in
+    rw (← c0 .before .before .empty .ensures) (puts-then _ _ _ (puts-then _ _ _ l (c .before .before .behind .ensures)) (c .text .ensures))))  -- returns
