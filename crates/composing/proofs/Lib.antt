@@ -1,3 +1,4 @@
+pub mod Rows
 pub mod Raised
 pub mod Further
 pub mod Second
