@@ -25,6 +25,14 @@ rows-append [] more = refl
 rows-append (row ∷ rows) more =
     ap (λ (b : List ℕ). rowBytes row ++ b) (rows-append rows more) ∙ sym (append-assoc (rowBytes row) (rowsBytes rows) (rowsBytes more))
 
+-- the first of the rows from the front
+pub first-rows : (rows more : List Row) (log : List ℕ) → take (8 * length rows) (over (rowsBytes (rows ++ more)) log) ≡ rowsBytes rows
+first-rows rows more log =
+    let b = rowsBytes (rows ++ more) in
+    ap (λ (bytes : List ℕ). take (8 * length rows) (bytes ++ drop (length b) log)) (rows-append rows more)
+    ∙ ap (take (8 * length rows)) (append-assoc (rowsBytes rows) (rowsBytes more) (drop (length b) log))
+    ∙ take-at (rowsBytes rows) (rowsBytes more ++ drop (length b) log) (8 * length rows) (rows-long rows)
+
 -- rows after k: what stood before, the rows, what stood after
 module _ (k : ℕ) (rows : List Row) (log : List ℕ) (h : 8 * k ≤ length log) where
   abbrev front : List ℕ
