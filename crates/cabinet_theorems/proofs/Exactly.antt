@@ -3,9 +3,9 @@ use Prim.Native.Nat.{ℕ, _-_, _≤_, _<_}
 use native.Mathlib.Omega.{arith}
 use mathlib.Core.Path.{_≡_, refl, sym, ap, subst, _∙_}
 use mathlib.Core.Bool.{Bool, true, false, true≢false}
-use mathlib.Core.List.{List, [], _∷_}
+use mathlib.Core.List.{[], _∷_}
 use mathlib.Core.Logic.{_↔_}
-use mathlib.Core.Option.{none, some, Option·getD}
+use mathlib.Core.Option.{none, some}
 use lib.ListN.{length, getD}
 use Rattle.session.specs.Session.{checkOf, faultNumber}
 use Rattle.session.specs.declared.Fault.{Fault}
@@ -27,7 +27,7 @@ use Rattle.cabinet.proofs.Ends.{Passed, refuses-1, refuses-2, refuses-3, sessio
 use Rattle.cabinet_theorems.proofs.Stops.{Shows, shown-once, stop-shows}
 
 -- the number of a refusal by the session is 4 to 7, that of a stop is not 1 to 7
-fault-number : (f : Fault) → (4 ≤ faultNumber f) × (faultNumber f ≤ 7)
+pub fault-number : (f : Fault) → (4 ≤ faultNumber f) × (faultNumber f ≤ 7)
 fault-number (Length k) = (omega arith, omega arith)
 fault-number (Kind k) = (omega arith, omega arith)
 fault-number (Value k) = (omega arith, omega arith)
@@ -40,14 +40,14 @@ stop-number Full e l h = absurd (let z : ⊥ = omega arith in z)
 stop-number LogFull e l h = absurd (let z : ⊥ = omega arith in z)
 
 -- the number of a told reply
-number : {t u : Told} → t ≡ u → t .number ≡ u .number
+pub number : {t u : Told} → t ≡ u → t .number ≡ u .number
 number e = ap (λ (t : Told). t .number) e
 
 -- a stop is known by what it tells; 10 is none
 abbrev stopBack : Told → Stop
 stopBack t = getD (Limit ∷ Undefined ∷ Full ∷ Limit ∷ LogFull ∷ []) (t .number - 7) Limit
 
-stop-known : (a b : Stop) → toldStop a ≡ toldStop b → a ≡ b
+pub stop-known : (a b : Stop) → toldStop a ≡ toldStop b → a ≡ b
 stop-known = known toldStop stopBack back
   where
     back : (a : Stop) → stopBack (toldStop a) ≡ a

@@ -1,19 +1,17 @@
 -- What a run that was not refused shows where it stops: 01's column "Given exactly when" for replies 0, 8 and 9, and 02's 11. No end shows
 -- two of them. Assumes nothing.
-use Prim.Native.Nat.{ℕ, _+_, _*_, _≤_, _<_}
+use Prim.Native.Nat.{_+_, _*_, _≤_, _<_}
 use native.Mathlib.Omega.{arith}
 use mathlib.Core.Path.{_≡_, refl, sym, _∙_}
-use mathlib.Core.Bool.{Bool, true, false, true≢false, not, _&&_}
+use mathlib.Core.Bool.{true, false, true≢false}
 use Rattle.laws.proofs.Apart.{apart}
 use Rattle.laws.proofs.Bools.{both}
-use mathlib.Core.List.{List}
 use lib.Dec.{leb}
 use lib.ListN.{length}
 use borrow.Author.Tests.{leb-true, leb-false, not-true}
 use Rattle.turns.specs.Turn.{Turn, Then}
 use Rattle.registers.specs.Registers.{idles}
-use Rattle.serial.specs.Serial.{wantsToSend, sentOf}
-use Rattle.machine.specs.declared.Machine.{Machine}
+use Rattle.serial.specs.Serial.{wantsToSend}
 use Rattle.machine.specs.declared.Pending.{Pending}
 use Rattle.machine.specs.declared.Pending.the-variants.{Nothing, Due}
 use Rattle.machine.specs.Interrupts.{pendingOf}
@@ -24,10 +22,10 @@ use Rattle.boundary.specs.declared.State.{State}
 use Rattle.boundary.specs.declared.Stop.{Stop}
 use Rattle.boundary.specs.declared.Stop.the-variants.{Limit, Undefined, Full, LogFull}
 use Rattle.boundary.specs.World.{Terms, World, Ended, memoriesIn}
-use Rattle.boundary.specs.Boundary.{recordsOf, fedWorld, sendsOf, sentState, sentWorld, lacksRow, executedOf, onPending, actOf, sendOf, boundaryOf, runOf}
+use Rattle.boundary.specs.Boundary.{due, fedWorld, sendsOf, sentState, sentWorld, lacksRow, executedOf, onPending, actOf, sendOf, boundaryOf, runOf}
 use Rattle.laws.proofs.Conds.{cases}
-use Rattle.boundary.proofs.Cases.{records-cycles}
 use Rattle.boundary.proofs.Runs.{run-keeps}
+use Rattle.log_theorems.proofs.Ready.{Ready, fed-ready, sent-ready}
 use Rattle.cabinet.specs.Answers.{Answer, toldStop, endAt, answerAt}
 
 -- 0: "the cycle limit N is reached"; 8: "the opcode to be executed is undefined", so no byte is to be sent, no interrupt to be
@@ -80,30 +78,29 @@ module _ (asked : Terms) (a : Answer) where
   shown-once LogFull Full p q = apart-sending (q .1) (p .1)
   shown-once LogFull LogFull p q = refl
 
--- a byte that was sent is not to be sent again: TDRE is set
-sent-rests : (s : State) → sendsOf (sentState s) ≡ false
-unfolding sentState wantsToSend sentOf
-sent-rests s = by (s .machine .chip .bus .serial .te) _
-  where
-    by : (te idle : Bool) → (te && not true && idle) ≡ false
-    by true idle = refl
-    by false idle = refl
+-- What is left of that boundary: 8 and 11 leave it at its step 4, 9 at its step 3. So "the records applied at that boundary stay applied", none
+-- is due, "and at 8 a byte sent there", none is to be sent; and 11 leaves "what 8 leaves".
+abbrev pub Leaves : Terms → Stop → State → Type 0
+Leaves asked Limit s = Unit
+Leaves asked Undefined s = Ready (asked .session) (asked .limit) s
+Leaves asked Full s = due (asked .session) s ≡ false
+Leaves asked LogFull s = Ready (asked .session) (asked .limit) s
 
 module _ (asked : Terms) where
   abbrev Ends : Ended → Type 0
-  Ends e = Shows asked (e .stop) (answerAt (endAt (toldStop (e .stop)) (e .world)))
+  Ends e = Shows asked (e .stop) (answerAt (endAt (toldStop (e .stop)) (e .world))) × Leaves asked (e .stop) (e .world .state)
 
   abbrev EndsThen : Turn World Ended → Type 0
   EndsThen = Then (λ v. Unit {0}) Ends
 
-  act-shows : (w : World) → w .state .cycles .0 < asked .limit → sendsOf (w .state) ≡ false → EndsThen (actOf (asked .watch) w)
+  act-shows : (w : World) → Ready (asked .session) (asked .limit) (w .state) → EndsThen (actOf (asked .watch) w)
   unfolding actOf
-  act-shows w l s = by (pendingOf (w .state .machine)) refl
+  act-shows w r = by (pendingOf (w .state .machine)) refl
     where
       by : (p : Pending) → pendingOf (w .state .machine) ≡ p → EndsThen (onPending (asked .watch) p w)
       by (Due cause) e =
           cases EndsThen (lacksRow (asked .watch) (w .state) (w .lent .log))
-          (λ f. let b = both _ _ f in (l, s, (λ n. apart cc), b .0, leb-false _ _ (not-true _ (b .1))))
+          (λ f. let b = both _ _ f in ((r .below, r .silent, (λ n. apart cc), b .0, leb-false _ _ (not-true _ (b .1))), r))
           (λ _. tt)
       by Nothing e =
           cases EndsThen (idles (w .state .machine .chip .registers)) (λ _. tt)
@@ -111,7 +108,7 @@ module _ (asked : Terms) where
         where
           looked : idles (w .state .machine .chip .registers) ≡ false
               → (k : Look) → lookOf (memoriesIn (w .lent)) (w .state .machine) ≡ k → EndsThen (executedOf k w)
-          looked f look.Undefined g = (l, s, e, f, g)
+          looked f look.Undefined g = ((r .below, r .silent, e, f, g), r)
           looked f (look.Runs i) g = tt
 
   turn-shows : (w : World) → EndsThen (boundaryOf asked w)
@@ -119,14 +116,22 @@ module _ (asked : Terms) where
   turn-shows w =
       let r = fedWorld (asked .session) w in
       let f = r .state in
-      let c = records-cycles (asked .session) (memoriesIn (w .lent)) (w .state) in
       cases EndsThen (leb (asked .limit) (w .state .cycles .0))
-      (λ e. leb-true _ _ e)
-      (λ e. let l = leb-false (asked .limit) (w .state .cycles .0) e in
-      let b : f .cycles .0 < asked .limit = omega arith in
+      (λ e. (leb-true _ _ e, tt))
+      (λ e.
+      let l = leb-false (asked .limit) (w .state .cycles .0) e in
+      let s = sent-ready asked w l in
       cases EndsThen (sendsOf f)
-      (λ s. cases EndsThen (leb (length (w .lent .output)) (f .sent .0)) (λ g. (b, s, leb-true _ _ g)) (λ _. act-shows (sentWorld r) b (sent-rests f)))
-      (λ s. act-shows r b s))
+      (λ d. cases EndsThen (leb (length (w .lent .output)) (f .sent .0))
+      (λ g. ((s .below, d, leb-true _ _ g), s .rested))
+      (λ _. act-shows (sentWorld r) s))
+      (λ d. act-shows r (fed-ready asked w l d)))
 
-  pub stop-shows : (w : World) → Ends (runOf asked w)
-  stop-shows w = run-keeps asked (λ v. Unit {0}) Ends (λ v _. turn-shows v) w tt
+  stop-ends : (w : World) → Ends (runOf asked w)
+  stop-ends w = run-keeps asked (λ v. Unit {0}) Ends (λ v _. turn-shows v) w tt
+
+  pub stop-shows : (w : World) → let e = runOf asked w in Shows asked (e .stop) (answerAt (endAt (toldStop (e .stop)) (e .world)))
+  stop-shows w = stop-ends w .0
+
+  pub stop-leaves : (w : World) → let e = runOf asked w in Leaves asked (e .stop) (e .world .state)
+  stop-leaves w = stop-ends w .1

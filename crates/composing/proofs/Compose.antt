@@ -2,12 +2,12 @@
 -- the room that is left and a log of its own, ends as the one run of N does, in all but the leaps; a wait across the cut may count twice. The
 -- one run's log is the room of the first's rows and then the second's log: the first's log itself, where the second got the rest of it.
 -- Assumes nothing.
-use Prim.Native.Nat.{ℕ, _+_, _-_, _≤_}
+use Prim.Native.Nat.{ℕ, _+_, _≤_}
 use native.Mathlib.Omega.{arith}
 use mathlib.Core.List.{List, _++_}
 use mathlib.Core.Bool.{Bool, true, false≢true}
 use mathlib.Core.Path.{_≡_, refl, sym, ap, subst, _∙_}
-use lib.ListN.{length, take, drop, take-append-drop}
+use lib.ListN.{length, take, drop}
 use lib.Seq.{take-append-seam}
 use Rattle.session.specs.declared.Fault.{Fault}
 use Rattle.session.specs.declared.Fault.the-variants as fault
@@ -27,14 +27,16 @@ use Rattle.cabinet.specs.declared.Ran.{Ran}
 use Rattle.cabinet.specs.Answers.{toldStop, End, endAt, endOf, Answer, answerAt, answered, answerOf, leapsOf}
 use Rattle.cabinet.proofs.Ends.{end-cases}
 use Rattle.cabinet_theorems.proofs.Exactly.{Admitted, admitted-end}
+use Rattle.cabinet_theorems.proofs.Log.{log-left}
 use Rattle.cabinet_theorems.proofs.Settled.{Single}
 use Rattle.rest.specs.Rest.{restOf}
 use Rattle.rest.specs.Answers.{restWrote, restAnswer, restBuffer}
 use Rattle.rest.proofs.Exactly.{rest-written, rest-left}
 use Rattle.composing.specs.Joined.{resumes, termsAfter, lentAfter, lentOver, joined}
+use Rattle.composing.proofs.Rows.{log-back}
 use Rattle.composing.proofs.Raised.{raised, apart-most}
-use Rattle.composing.proofs.Fresh.{Resumes, log-rest}
-use Rattle.composing.proofs.Second.{pastOf, secondOf, restAfter, used-within, after-sound, after-short, runs-raise}
+use Rattle.composing.proofs.Fresh.{Resumes}
+use Rattle.composing.proofs.Second.{pastOf, secondOf, restAfter, used-within, after-sound, after-short, runs-resume}
 
 -- the replies 0 and 11 are stops
 fault-ends : {R : Type 0} (f : Fault) → resumes (toldFault f) ≡ true → R
@@ -132,7 +134,7 @@ module _ (session : List ℕ) (watch : Watch) (n₁ n : ℕ) (m : Machine) (give
       module _ (stopped : Resumes (ranOf asked₁ m given .stop)) where
         joined-here : answerAt whole ≡ joined watch (answerAt here) (answerAt left)
         joined-here =
-            let r = runs-raise session watch m given n₁ (h .1) n l stopped log in
+            let r = runs-resume session watch m given n₁ (h .1) n l stopped log in
             let q = r .1 in
             ap (λ (k : Stop). answerAt (endAt (toldStop k) (whole .world))) (r .0)
             ∙ joins watch (left .reply) (here .reply) (whole .world) (here .world) (left .world) (q .leaps) (q .inside) (q .same) (filled-part asked₁ m given .2)
@@ -140,7 +142,7 @@ module _ (session : List ℕ) (watch : Watch) (n₁ n : ℕ) (m : Machine) (give
         leaps-here : let k = here .world .state .leaps .0 + left .world .state .leaps .0 in
             (whole .world .state .leaps .0 ≤ k) × (k ≤ whole .world .state .leaps .0 + 1)
         leaps-here =
-            let r = runs-raise session watch m given n₁ (h .1) n l stopped log .1 in
+            let r = runs-resume session watch m given n₁ (h .1) n l stopped log .1 in
             let e = ap (λ (x : World). x .state .leaps .0) (r .same) in
             let low = r .apart .low in
             let most = apart-most (r .apart) in
@@ -201,18 +203,18 @@ module _ (session : List ℕ) (watch : Watch) (n₁ n : ℕ) (m : Machine) (give
       stopped : Resumes (ranOf asked₁ m given .stop)
       stopped = admits asked₁ m given e .1
 
-      -- the two answers, joined, are the one run's
-      pub compose : (log : List ℕ) → answerOf asked m (lentWhole log) ≡ joined watch firstAnswer (secondAnswer log)
-      compose log =
+      -- "A run with a fresh log goes on as if uncut": the two answers, joined, are that of the one run with the first's room and then the fresh log
+      pub resume : (log : List ℕ) → answerOf asked m (lentWhole log) ≡ joined watch firstAnswer (secondAnswer log)
+      resume log =
           subst (λ (x : End). answerOf asked m (over log x) ≡ joined watch (answerAt x) (answerAt (again log x))) (sym first-end)
           (ap answerAt (whole-end log admitted l b)
           ∙ joined-here log admitted l b stopped
           ∙ ap (λ (x : End). joined watch (answerAt here) (answerAt x)) (sym (left-end log admitted l b)))
 
       -- and so are their leaps, but that a wait across the cut may count twice
-      pub compose-leaps : (log : List ℕ) → let leaps = leapsOf asked m (lentWhole log) in
+      pub resume-leaps : (log : List ℕ) → let leaps = leapsOf asked m (lentWhole log) in
           (leaps ≤ firstLeaps + secondLeaps log) × (firstLeaps + secondLeaps log ≤ leaps + 1)
-      compose-leaps log =
+      resume-leaps log =
           subst
           (λ (x : End).
           let k = x .world .state .leaps .0 + again log x .world .state .leaps .0 in
@@ -225,15 +227,46 @@ module _ (session : List ℕ) (watch : Watch) (n₁ n : ℕ) (m : Machine) (give
           (omega (arith, p, q, r .0), omega (arith, p, q, r .1)))
 
       -- the same of what the calls return: a run's report, with the image, the output and the log that it leaves
-      pub calls-compose : (r₁ r₂ r : Ran) (l₁ l₂ k : Lent) (log : List ℕ)
+      pub calls-resume : (r₁ r₂ r : Ran) (l₁ l₂ k : Lent) (log : List ℕ)
           → Single asked₁ m given r₁ l₁
           → Single (termsAfter (r₁ .used .0) (r₁ .cycles .0) asked) (r₁ .machine) (withLog (lentAfter watch (r₁ .sent .0) (r₁ .entries .0) l₁) log) r₂ l₂
           → Single asked m (lentOver watch (r₁ .entries .0) log given) r k
           → answered r k ≡ joined watch (answered r₁ l₁) (answered r₂ l₂)
-      calls-compose r₁ r₂ r l₁ l₂ k log p q u =
+      calls-resume r₁ r₂ r l₁ l₂ k log p q u =
           subst
           (λ (a : Answer).
           answered r₂ l₂ ≡ answerOf (termsAfter (a .used) (a .cycles) asked) (a .machine) (withLog (lentAfter watch (a .sent) (a .entries) (a .lent)) log)
           → answered r k ≡ answerOf asked m (lentOver watch (a .entries) log given)
           → answered r k ≡ joined watch a (answered r₂ l₂))
-          (sym p) (λ v z. z ∙ compose log ∙ ap (joined watch firstAnswer) (sym v)) q u
+          (sym p) (λ v z. z ∙ resume log ∙ ap (joined watch firstAnswer) (sym v)) q u
+
+      -- Where the second gets the rest of the log: the one run with the first's log.
+      given-whole : lentWhole (secondLent .log) ≡ given
+      given-whole =
+          let p = log-left asked₁ m given in
+          ap (withLog given) (log-back (loggedBytes watch (firstAnswer .entries)) (given .log) (firstAnswer .lent .log) (p .2) (p .3))
+
+      pub compose : answerOf asked m given ≡ joined watch firstAnswer (answerOf secondTerms (firstAnswer .machine) secondLent)
+      compose = ap (answerOf asked m) (sym given-whole) ∙ resume (secondLent .log)
+
+      pub compose-leaps : let leaps = leapsOf asked m given in
+          let second = leapsOf secondTerms (firstAnswer .machine) secondLent in
+          (leaps ≤ firstLeaps + second) × (firstLeaps + second ≤ leaps + 1)
+      compose-leaps =
+          subst
+          (λ (x : Lent).
+          let k = firstLeaps + secondLeaps (secondLent .log) in
+          (leapsOf asked m x ≤ k) × (k ≤ leapsOf asked m x + 1))
+          given-whole (resume-leaps (secondLent .log))
+
+      pub calls-compose : (r₁ r₂ r : Ran) (l₁ l₂ k : Lent)
+          → Single asked₁ m given r₁ l₁
+          → Single (termsAfter (r₁ .used .0) (r₁ .cycles .0) asked) (r₁ .machine) (lentAfter watch (r₁ .sent .0) (r₁ .entries .0) l₁) r₂ l₂
+          → Single asked m given r k
+          → answered r k ≡ joined watch (answered r₁ l₁) (answered r₂ l₂)
+      calls-compose r₁ r₂ r l₁ l₂ k p q u =
+          subst
+          (λ (a : Answer).
+          answered r₂ l₂ ≡ answerOf (termsAfter (a .used) (a .cycles) asked) (a .machine) (lentAfter watch (a .sent) (a .entries) (a .lent))
+          → answered r k ≡ joined watch a (answered r₂ l₂))
+          (sym p) (λ v. u ∙ compose ∙ ap (joined watch firstAnswer) (sym v)) q

@@ -1,13 +1,12 @@
 -- A run, and the same run with a fresh log behind the first's rows: the second ends as the first did where anything but 11 stopped it, and
 -- passes where 11 stopped it. A run with a limit no lower passes where 0 or 11 stopped the first. Assumes nothing.
-use Prim.Native.Nat.{ℕ, _+_, _*_, _≤_}
+use Prim.Native.Nat.{ℕ, _*_, _≤_}
 use native.Mathlib.Omega.{arith}
 use mathlib.Core.List.{List, [], _++_}
 use mathlib.Core.Path.{_≡_, refl, sym, ap, subst, _∙_}
 use mathlib.Core.Bool.{Bool, true, false, cond, false≢true}
 use lib.ListN.{length, take, drop, length-append}
 use lib.Seq.{length-take-le, take-at, drop-at}
-use Rattle.laws.proofs.Apart.{apart}
 use Rattle.machine.specs.declared.Machine.{Machine}
 use Rattle.wake_log.specs.declared.Row.{Row}
 use Rattle.boundary.specs.declared.Stop.{Stop}
@@ -19,6 +18,7 @@ use Rattle.boundary.specs.Start.{startWorld, ranOf}
 use Rattle.log_theorems.specs.Wakes.{rowsBytes, loggedRows, relogged, endedWith, wakesOf}
 use Rattle.log_theorems.proofs.Bytes.{rows-long}
 use Rattle.log_theorems.proofs.Beside.{Written, Follows, follows}
+use Rattle.cabinet_theorems.proofs.Log.{log-part}
 use Rattle.composing.proofs.Further.{not-log-full, run-further, run-same}
 
 -- rows in a log, and in another log that is fresh behind them
@@ -49,17 +49,6 @@ module _ (t : Terms) (m : Machine) (given : Lent) where
   wrote : Written asked 0 (given .log) rows (end .world)
   wrote = follows t asked false (startWorld m given) [] (λ f. absurd (false≢true f)) (λ _. omega arith) .written
 
-  pub log-room : logged ≤ length (given .log)
-  log-room = by asked (wrote .room)
-    where
-      by : (b : Bool) → (b ≡ true → 8 * (0 + length rows) ≤ length (given .log)) → cond b (8 * end .world .state .entries .0) 0 ≤ length (given .log)
-      by true h = let r = h refl in let e = wrote .entries in omega (arith, r, e)
-      by false h = omega arith
-
-  -- the first run's rows fill them
-  pub log-filled : length (take logged (end .world .lent .log)) ≡ logged
-  log-filled = ?
-
   module _ (fresh : List ℕ) where
     -- the log in whose room the first run goes as it did, and that log where the first run ended
     abbrev pub freshLog : List ℕ
@@ -73,7 +62,7 @@ module _ (t : Terms) (m : Machine) (given : Lent) where
         let n = end .world .state .entries .0 in
         let e : logged ≡ 8 * n = ap (λ (b : Bool). cond b (8 * n) 0) a in
         let l = length-append (take logged (given .log)) fresh in
-        let h = length-take-le logged (given .log) log-room in
+        let h = length-take-le logged (given .log) (log-part t m given .0) in
         omega (arith, e, l, h)
 
     goes : Follows t asked asked (startWorld m given) freshLog rows end

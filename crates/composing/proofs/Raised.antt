@@ -1,6 +1,6 @@
 -- A run of the rest beside the run that it goes on: at each boundary the one has what the other has, and besides what the first run
 -- had done. Assumes nothing.
-use Prim.Native.Nat.{ℕ, _+_, _-_, _≤_, _<_}
+use Prim.Native.Nat.{ℕ, _+_, _-_, _≤_}
 use native.Mathlib.Nat.{add-assoc}
 use native.Mathlib.Omega.{arith}
 use mathlib.Core.List.{List, _++_}
@@ -8,7 +8,7 @@ use mathlib.Core.Path.{_≡_, refl, sym, ap, subst, _∙_}
 use mathlib.Core.Bool.{Bool, true, false, cond}
 use lib.Dec.{leb}
 use lib.ListN.{length, length-append}
-use Rattle.turns.specs.Turn.{Turn, more, done}
+use Rattle.turns.specs.Turn.{Turn}
 use Rattle.turns.proofs.Beside.{Both, loop-beside}
 use Rattle.laws.proofs.Apart.{apart}
 use Rattle.laws.proofs.Lists.{set-append-add}
@@ -25,7 +25,7 @@ use Rattle.machine.specs.declared.Pending.the-variants.{Nothing, Due}
 use Rattle.machine.specs.Machine.{passedOf}
 use Rattle.machine.specs.Interrupts.{pendingOf, causeNumber, behindOf}
 use Rattle.machine.specs.Events.{appliedOf, onBus}
-use Rattle.machine.specs.Steps.{Stepped, enteredOf, lookOf, stepOf}
+use Rattle.machine.specs.Steps.{enteredOf, lookOf, stepOf}
 use Rattle.wake_log.specs.declared.Row.{Row}
 use Rattle.wake_log.specs.Log.{withRow}
 use Rattle.boundary.specs.declared.State.{State}

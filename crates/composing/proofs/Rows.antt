@@ -4,14 +4,19 @@ use Prim.Native.Nat.{ℕ, _+_, _*_, _-_, _%_, _^_}
 use native.Mathlib.Omega.{arith}
 use mathlib.Core.Bool.{Bool, true, false, not, cond, _&&_}
 use mathlib.Core.List.{List, _++_, append-assoc}
-use mathlib.Core.Path.{_≡_, refl, sym, ap, _∙_}
+use mathlib.Core.Path.{_≡_, refl, ap, _∙_}
 use lib.Dec.{leb}
-use lib.ListN.{length, take, drop, length-append}
-use lib.Seq.{take-append-add, drop-append-add}
+use lib.ListN.{length, take, drop, length-append, take-append-drop}
+use lib.Seq.{take-append-add, drop-append-add, drop-at}
 use Rattle.laws.proofs.Orders.{leb-shifted}
 use Rattle.numbers.specs.Numbers.{over}
 use Rattle.wake_log.specs.declared.Row.{Row}
 use Rattle.wake_log.specs.Log.{rowBytes, fitsRow, withRow}
+
+-- a log whose first k bytes were written: those it had, and behind them what it has, are what it was
+pub log-back : (k : ℕ) (before after : List ℕ) → length (take k after) ≡ k → after ≡ take k after ++ drop k before → take k before ++ drop k after ≡ before
+log-back k before after long e =
+    ap (λ (d : List ℕ). take k before ++ d) (ap (drop k) e ∙ drop-at (take k after) (drop k before) k long) ∙ take-append-drop k before
 
 -- a bound within a list and within what follows its front
 pub leb-behind : (c i j : ℕ) → leb (c + i) (c + j) ≡ leb i j

@@ -1,12 +1,12 @@
 -- The second run beside the one: after a run that its limit or a full log stopped, the run of what is left of a limit no lower, on the rest
 -- of the session, with the room that is left and a fresh log, is the one run from there on. Assumes nothing.
-use Prim.Native.Nat.{ℕ, _+_, _-_, _≤_}
+use Prim.Native.Nat.{ℕ, _+_, _≤_}
 use native.Mathlib.Nat.{add-zero}
 use native.Mathlib.Omega.{arith}
 use mathlib.Core.List.{List, [], _++_}
 use mathlib.Core.Path.{_≡_, refl, sym, ap, subst, _∙_}
 use mathlib.Core.Bool.{Bool, true, false}
-use lib.ListN.{length, take, take-append-drop}
+use lib.ListN.{length, take, drop, take-append-drop}
 use Rattle.session.specs.Session.{nextAt, checkOf}
 use Rattle.session.specs.declared.Checked.the-variants.{Sound}
 use Rattle.machine.specs.declared.Machine.{Machine}
@@ -22,9 +22,11 @@ use Rattle.rest.specs.Ahead.{SoundFrom}
 use Rattle.rest.proofs.Places.{place-next, place-sound}
 use Rattle.rest.proofs.Laws.{rest-length}
 use Rattle.rest.proofs.Matched.{Matched, rest-matched, rest-sound}
+use Rattle.cabinet_theorems.proofs.Log.{log-part}
 use Rattle.composing.specs.Joined.{termsAfter, lentAfter}
+use Rattle.composing.proofs.Rows.{log-back}
 use Rattle.composing.proofs.Raised.{Past, raised, Apart, Raises, Ends, run-raised}
-use Rattle.composing.proofs.Fresh.{Resumes, freshLog, freshWorld, log-filled, run-resumes}
+use Rattle.composing.proofs.Fresh.{Resumes, freshLog, freshWorld, run-resumes}
 
 -- the first unused record of a run stands after as many records as it used
 placed : (t : Terms) → Keeps t (λ w. placeOf (t .session) (w .state .used .0) ≡ w .state .place)
@@ -136,14 +138,29 @@ module _ (session : List ℕ) (watch : Watch) (m : Machine) (given : Lent) (n₁
         starts leaps false = record { order = omega arith; low = omega arith; high = omega arith }
 
     -- the run of N, its log fresh behind the first run's rows, is the run of the rest, with what the first run had done
-    pub runs-raise : (n : ℕ) → n₁ ≤ n → Resumes (ranOf one m given .stop) → (fresh : List ℕ)
+    pub runs-resume : (n : ℕ) → n₁ ≤ n → Resumes (ranOf one m given .stop) → (fresh : List ℕ)
         → Ends session restAfter past (first .state .leaps .0)
         (ranOf (watching session n watch) m (withLog given (freshLog one m given fresh)))
         (runOf (termsAfter (first .state .used .0) (first .state .cycles .0) (watching session n watch)) (secondOf watch first fresh))
-    runs-raise n l r fresh =
+    runs-resume n l r fresh =
         let whole = watching session n watch in
         let again = runOf (termsAfter (first .state .used .0) (first .state .cycles .0) whole) (secondOf watch first fresh) in
         subst (λ (x : Ended). Ends session restAfter past (first .state .leaps .0) x again)
         (sym (run-resumes session watch n₁ n l m given fresh r))
-        (run-raised session restAfter past (first .state .leaps .0) watch (log-filled one m given) after-long n
+        (run-raised session restAfter past (first .state .leaps .0) watch (log-part one m given .2) after-long n
         (freshWorld one m given fresh) (secondOf watch first fresh) (second-starts fresh))
+
+    -- .. and the run of N itself, where the second run's log is the rest of the first's
+    pub runs-raise : (n : ℕ) → n₁ ≤ n → Resumes (ranOf one m given .stop)
+        → Ends session restAfter past (first .state .leaps .0)
+        (ranOf (watching session n watch) m given)
+        (ranOf (termsAfter (first .state .used .0) (first .state .cycles .0) (watching session n watch)) (first .state .machine)
+        (lentAfter watch (first .state .sent .0) (first .state .entries .0) (first .lent)))
+    runs-raise n l r =
+        let k = loggedBytes watch (first .state .entries .0) in
+        let p = log-part one m given in
+        let rest = drop k (first .lent .log) in
+        let again = runOf (termsAfter (first .state .used .0) (first .state .cycles .0) (watching session n watch)) (secondOf watch first rest) in
+        subst (λ (log : List ℕ). Ends session restAfter past (first .state .leaps .0) (ranOf (watching session n watch) m (withLog given log)) again)
+        (log-back k (given .log) (first .lent .log) (p .2) (p .3))
+        (runs-resume n l r rest)
