@@ -1,12 +1,12 @@
--- `night_names::same` meets its contract: each turn compares one byte more. Assumes nothing.
+-- `night_arguments::same` meets its contract: each turn compares one byte more. Assumes nothing.
 use Prim.Native.Nat.{_-_, _≤_}
 use native.Mathlib.Omega.{arith}
 use mathlib.Core.Path.{_≡_, refl, sym, _∙_}
 use lib.ListN.{length, drop}
-use Rattle.night_names.specs.Names.{sameOf}
-use Rattle.night_names.proofs.Laws.{same-length, same-next, same-differ, same-end}
-use Rattle.night_names.proofs.same.Statement.{statement}
-use Rattle.night_names.proofs.same.Tie as tie
+use Rattle.night_arguments.specs.Arguments.{sameOf}
+use Rattle.night_arguments.proofs.Laws.{same-length, same-next, same-differ, same-end}
+use Rattle.night_arguments.proofs.same.Statement.{statement}
+use Rattle.night_arguments.proofs.same.Tie as tie
 
 abbrev Inv-loop : tie.InvT-loop
 Inv-loop a b i₀ i = (i ≤ length a) × (sameOf a b ≡ sameOf (drop i a) (drop i b))
