@@ -1,6 +1,6 @@
 -- What a run goes through, what it is asked, and how it ends.
-use Prim.Native.Nat.{ℕ, _+_}
-use mathlib.Core.Bool.{Bool, false}
+use Prim.Native.Nat.{ℕ, _+_, _*_, _%_, _^_}
+use mathlib.Core.Bool.{Bool, false, cond}
 use mathlib.Core.List.{List, []}
 use Rattle.bus.specs.Access.{Memories, memories}
 use Rattle.machine.specs.declared.Machine.{Machine}
@@ -51,6 +51,14 @@ unwatched = record { log = false; since = record { 0 = 0 } }
 
 abbrev pub terms : List ℕ → ℕ → Terms
 terms session limit = watching session limit unwatched
+
+-- what a run watches that goes on after so many cycles of another
+abbrev pub later : Watch → ℕ → Watch
+later watch cycles = record { log = watch .log; since = record { 0 = (watch .since .0 + cycles) % 2 ^ 32 } }
+
+-- how many bytes of the log so many entries fill
+abbrev pub loggedBytes : Watch → ℕ → ℕ
+loggedBytes watch entries = cond (watch .log) (8 * entries) 0
 
 -- what a run goes through: the machine with the counts, and what was lent
 pub record World : Type 0 where

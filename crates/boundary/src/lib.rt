@@ -16,7 +16,7 @@ ghost use mathlib.Core.Bool.{false};
 ghost use mathlib.Core.List.{List};
 ghost use Prim.Native.Nat.{ℕ, _+_, _<_, _≤_, _^_};
 ghost use lib.ListN.{length};
-ghost use Rattle.boundary.specs.World.{Lent, lending, withMemories, watching, worldOf, grownTo};
+ghost use Rattle.boundary.specs.World.{Lent, lending, withMemories, watching, unwatched, later, loggedBytes, worldOf, grownTo};
 ghost use Rattle.boundary.specs.Boundary.{recordTaken, recordsOf, sentState, waitedState, rowOf, lacksRow, loggedOf, enteredWorld};
 ghost use Rattle.boundary.specs.Boundary.{executedOf, onPending, actOf, sendOf, boundaryOf, turned};
 ghost use Rattle.boundary.specs.Counts.{Fine, Ready, Fits};
@@ -45,7 +45,7 @@ pub struct Grown {
     pub leaps: Leaps,
 }
 
-// What is watched: with `log` each interrupt entry is logged, by its count and the cycles `since` which the run goes on.
+// What is watched: with `log` each interrupt entry is logged. `since` are the cycles that had passed before the run; they are added to a row's count.
 pub struct Watch {
     pub log: bool,
     pub since: Cycles,
@@ -66,6 +66,37 @@ pub enum Progress {
 pub struct Turned {
     pub state: State,
     pub progress: Progress,
+}
+
+impl Watch {
+    pub fn nothing() -> Watch
+        ensures { λ r. ⌜ r ≡ unwatched ⌝ }
+    {
+        Watch {
+            log: false,
+            since: Cycles(0),
+        }
+    }
+
+    // For a run that goes on after so many cycles of another.
+    pub fn later(self, cycles: Cycles) -> Watch
+        ensures { λ r. ⌜ r ≡ later self (cycles .0) ⌝ }
+    {
+        Watch {
+            log: self.log,
+            since: Cycles(wrapping_add_u32(self.since.0, cycles.0)),
+        }
+    }
+
+    // How many bytes of the log so many entries fill.
+    pub fn logged(self, entries: Entries) -> usize
+        ensures { λ r. ⌜ r ≡ loggedBytes self (entries .0) ⌝ }
+    {
+        if self.log {
+            return 8 * (entries.0 as usize);
+        }
+        0
+    }
 }
 
 impl State {
