@@ -4,9 +4,9 @@ use native.Mathlib.Omega.{arith}
 use mathlib.Core.List.{List}
 use mathlib.Core.Logic.{⊎-elim}
 use mathlib.Core.Path.{_≡_, refl, sym, ap, subst, _∙_}
-use mathlib.Core.Bool.{Bool, true, false, cond}
+use mathlib.Core.Bool.{Bool, true, false, not, cond, _&&_}
 use lib.ListN.{length}
-use borrow.Author.Tests.{le-leb, lt-leb}
+use borrow.Author.Tests.{le-leb, lt-leb, not-false}
 use Rattle.turns.specs.Turn.{Turn, more, done}
 use Rattle.opcodes.specs.declared.Instruction.{Instruction}
 use Rattle.registers.specs.Registers.{idles}
@@ -23,12 +23,16 @@ use Rattle.machine.specs.Machine.{passedOf}
 use Rattle.machine.specs.Interrupts.{pendingOf}
 use Rattle.machine.specs.Steps.{Stepped, moved, enteredOf, lookOf, stepOf}
 use Rattle.machine.proofs.Steps.{step-cycles, entered-cycles}
+use Rattle.wake_log.specs.declared.Row.{Row}
+use Rattle.wake_log.specs.Log.{fitsRow, withRow}
 use Rattle.boundary.specs.World.{Lent, memoriesIn, withMemories, Terms, World, worldOf, endedOf, grown, grownTo}
-use Rattle.boundary.specs.Boundary.{recordTaken, recordsOf, fedWorld, sendsOf, sentState, sentWorld, enteredWorld, waitedState, waitedWorld}
+use Rattle.boundary.specs.Boundary.{recordTaken, recordsOf, fedWorld, sendsOf, sentState, sentWorld, rowOf, lacksRow, loggedOf, loggedWorld, enteredWorld}
+use Rattle.boundary.specs.Boundary.{waitedState, waitedWorld}
 use Rattle.boundary.specs.Boundary.{steppedWorld, executedOf, onPending, actOf, sendOf, boundaryOf}
 use Rattle.boundary.specs.Counts.{Fine, Ready, Fits}
 use Rattle.boundary.specs.declared.State.{State}
 use Rattle.boundary.specs.declared.Stop.the-variants as stops
+use Rattle.boundary.specs.declared.Watch.{Watch}
 use Rattle.laws.proofs.Conds.{picks, passes}
 use Rattle.boundary.proofs.Feeding.{records-keep}
 
@@ -76,40 +80,63 @@ module _ (s : State) (l : Lent) where
       ∙ ap (λ (z : Stepped). more (steppedWorld z (worldOf s l))) q
       ∙ ap (λ (k : Look). executedOf k (worldOf s l)) (sym h)
 
-  -- steps 4 to 6
-  pub act-enters : {cause : Cause} → pendingOf (s .machine) ≡ Due cause → actOf (worldOf s l) ≡ more (enteredWorld cause (worldOf s l))
-  unfolding actOf
-  act-enters e = ap (λ (p : Pending). onPending p (worldOf s l)) e
+  module _ (watch : Watch) where
+    -- a row that is asked for, and fits
+    pub row-fits : watch .log ≡ true → lacksRow watch s (l .log) ≡ false → fitsRow (l .log) (s .entries .0) ≡ true
+    row-fits a e = not-false _ (ap (λ (b : Bool). b && not (fitsRow (l .log) (s .entries .0))) (sym a) ∙ e)
 
-  module _ (e : pendingOf (s .machine) ≡ Nothing) where
-    pub act-waits : idles (s .machine .chip .registers) ≡ true → actOf (worldOf s l) ≡ more (waitedWorld (worldOf s l))
+    pub logs : (cause : Cause) {row : Row} {log : List ℕ} → watch .log ≡ true → row ≡ rowOf watch cause s → log ≡ withRow row (s .entries .0) (l .log)
+        → log ≡ loggedOf watch cause s (l .log)
+    unfolding loggedOf
+    logs cause a e f = f ∙ ap (λ (r : Row). withRow r (s .entries .0) (l .log)) e ∙ sym (picks _ _ a)
+
+    pub logs-not : (cause : Cause) → watch .log ≡ false → l .log ≡ loggedOf watch cause s (l .log)
+    unfolding loggedOf
+    logs-not cause a = sym (passes _ _ a)
+
+    -- step 4, by whether a row is asked for and lacks
+    module _ (cause : Cause) where
+      pub accept-stops : lacksRow watch s (l .log) ≡ true → onPending watch (Due cause) (worldOf s l) ≡ done (endedOf stops.LogFull (worldOf s l))
+      accept-stops e = picks _ _ e
+
+      pub accept-goes : lacksRow watch s (l .log) ≡ false
+          → onPending watch (Due cause) (worldOf s l) ≡ more (enteredWorld cause (loggedWorld watch cause (worldOf s l)))
+      accept-goes e = passes _ _ e
+
+    -- steps 4 to 6
+    pub act-accepts : {cause : Cause} → pendingOf (s .machine) ≡ Due cause → actOf watch (worldOf s l) ≡ onPending watch (Due cause) (worldOf s l)
     unfolding actOf
-    act-waits w = ap (λ (p : Pending). onPending p (worldOf s l)) e ∙ picks _ _ w
+    act-accepts e = ap (λ (p : Pending). onPending watch p (worldOf s l)) e
 
-    pub act-steps : idles (s .machine .chip .registers) ≡ false
-        → actOf (worldOf s l) ≡ executedOf (lookOf (memoriesIn l) (s .machine)) (worldOf s l)
-    unfolding actOf
-    act-steps w = ap (λ (p : Pending). onPending p (worldOf s l)) e ∙ passes _ _ w
+    module _ (e : pendingOf (s .machine) ≡ Nothing) where
+      pub act-waits : idles (s .machine .chip .registers) ≡ true → actOf watch (worldOf s l) ≡ more (waitedWorld (worldOf s l))
+      unfolding actOf
+      act-waits w = ap (λ (p : Pending). onPending watch p (worldOf s l)) e ∙ picks _ _ w
 
-  -- step 3
-  pub send-full : sendsOf s ≡ true → length (l .output) ≤ s .sent .0 → sendOf (worldOf s l) ≡ done (endedOf stops.Full (worldOf s l))
-  unfolding sendOf
-  send-full p q = picks _ _ p ∙ picks _ _ (le-leb _ _ q)
+      pub act-steps : idles (s .machine .chip .registers) ≡ false
+          → actOf watch (worldOf s l) ≡ executedOf (lookOf (memoriesIn l) (s .machine)) (worldOf s l)
+      unfolding actOf
+      act-steps w = ap (λ (p : Pending). onPending watch p (worldOf s l)) e ∙ passes _ _ w
 
-  pub send-byte : sendsOf s ≡ true → s .sent .0 < length (l .output) → sendOf (worldOf s l) ≡ actOf (sentWorld (worldOf s l))
-  unfolding sendOf
-  send-byte p q = picks _ _ p ∙ passes _ _ (lt-leb _ _ q)
+    -- step 3
+    pub send-full : sendsOf s ≡ true → length (l .output) ≤ s .sent .0 → sendOf watch (worldOf s l) ≡ done (endedOf stops.Full (worldOf s l))
+    unfolding sendOf
+    send-full p q = picks _ _ p ∙ picks _ _ (le-leb _ _ q)
 
-  pub send-rests : sendsOf s ≡ false → sendOf (worldOf s l) ≡ actOf (worldOf s l)
-  unfolding sendOf
-  send-rests p = passes _ _ p
+    pub send-byte : sendsOf s ≡ true → s .sent .0 < length (l .output) → sendOf watch (worldOf s l) ≡ actOf watch (sentWorld (worldOf s l))
+    unfolding sendOf
+    send-byte p q = picks _ _ p ∙ passes _ _ (lt-leb _ _ q)
+
+    pub send-rests : sendsOf s ≡ false → sendOf watch (worldOf s l) ≡ actOf watch (worldOf s l)
+    unfolding sendOf
+    send-rests p = passes _ _ p
 
   module _ (t : Terms) where
     pub at-limit : t .limit ≤ s .cycles .0 → boundaryOf t (worldOf s l) ≡ done (endedOf stops.Limit (worldOf s l))
     unfolding boundaryOf
     at-limit h = picks _ _ (le-leb _ _ h)
 
-    pub below-limit : s .cycles .0 < t .limit → boundaryOf t (worldOf s l) ≡ sendOf (fedWorld (t .session) (worldOf s l))
+    pub below-limit : s .cycles .0 < t .limit → boundaryOf t (worldOf s l) ≡ sendOf (t .watch) (fedWorld (t .session) (worldOf s l))
     unfolding boundaryOf
     below-limit h = passes _ _ (lt-leb _ _ h)
 

@@ -13,7 +13,8 @@ use Rattle.machine.specs.declared.Pending.the-variants.{Due}
 use Rattle.machine.specs.Interrupts.{pendingOf}
 use Rattle.machine.specs.Steps.{lookOf, stepOf}
 use Rattle.boundary.specs.World.{memoriesIn, Terms, World, worldOf, Ended}
-use Rattle.boundary.specs.Boundary.{due, recordTaken, fedWorld, sentState, sentWorld, enteredWorld, waitedWorld, steppedWorld, actOf, boundaryOf, runOf}
+use Rattle.boundary.specs.Boundary.{due, recordTaken, fedWorld, sentState, sentWorld, lacksRow, loggedWorld, enteredWorld}
+use Rattle.boundary.specs.Boundary.{waitedWorld, steppedWorld, actOf, boundaryOf, runOf}
 use Rattle.boundary.specs.declared.State.{State}
 use Rattle.boundary.proofs.Feeding.{records-keep}
 use Rattle.boundary.proofs.Cases.{records-cycles}
@@ -23,8 +24,8 @@ pub record Keeps (t : Terms) (Q : World → Type 0) : Type 0 where
   pub applied : (w : World) → due (t .session) (w .state) ≡ true → Q w
       → Q (worldOf (recordTaken (t .session) (memoriesIn (w .lent)) (w .state)) (w .lent))
   pub sent : (w : World) → w .state .sent .0 < length (w .lent .output) → Q w → Q (sentWorld w)
-  pub entered : (w : World) (cause : Cause) → pendingOf (w .state .machine) ≡ Due cause → w .state .cycles .0 < t .limit → Q w
-      → Q (enteredWorld cause w)
+  pub entered : (w : World) (cause : Cause) → pendingOf (w .state .machine) ≡ Due cause → lacksRow (t .watch) (w .state) (w .lent .log) ≡ false
+      → w .state .cycles .0 < t .limit → Q w → Q (enteredWorld cause (loggedWorld (t .watch) cause w))
   pub waited : (w : World) → idles (w .state .machine .chip .registers) ≡ true → w .state .cycles .0 < t .limit → Q w → Q (waitedWorld w)
   pub stepped : (w : World) (i : Instruction) → idles (w .state .machine .chip .registers) ≡ false
       → lookOf (memoriesIn (w .lent)) (w .state .machine) ≡ Runs i → w .state .cycles .0 < t .limit → Q w
@@ -34,9 +35,10 @@ module _ (t : Terms) (Q : World → Type 0) (k : Keeps t Q) where
   abbrev Holds : Turn World Ended → Type 0
   Holds = Then Q (λ e. Q (e .world))
 
-  act-holds : (w : World) → w .state .cycles .0 < t .limit → Q w → Holds (actOf w)
+  act-holds : (w : World) → w .state .cycles .0 < t .limit → Q w → Holds (actOf (t .watch) w)
   act-holds w l q =
-      act-cases Holds w (λ cause e. k .entered w cause e l q) (λ e f. k .waited w f l q) q (λ i f e. k .stepped w i f e l q)
+      act-cases Holds (t .watch) w (λ cause e f. q) (λ cause e f. k .entered w cause e f l q) (λ e f. k .waited w f l q) q
+      (λ i f e. k .stepped w i f e l q)
 
   turn-holds : (w : World) → Q w → Holds (boundaryOf t w)
   unfolding sentState

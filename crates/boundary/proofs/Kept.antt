@@ -17,7 +17,7 @@ use Rattle.boundary.specs.Counts.{Fine}
 use Rattle.boundary.specs.Start.{startOf, startWorld, ranOf}
 use Rattle.boundary.specs.declared.State.{State}
 use Rattle.boundary.specs.declared.Stop.{Stop}
-use Rattle.boundary.specs.declared.Stop.the-variants.{Limit, Undefined, Full}
+use Rattle.boundary.specs.declared.Stop.the-variants.{Limit, Undefined, Full, LogFull}
 use Rattle.boundary.proofs.Cases.{entry-most, records-cycles}
 use Rattle.boundary.proofs.Runs.{act-cases, boundary-cases, run-keeps, turn-fine}
 use Rattle.boundary.proofs.Keeps.{Keeps, run-holds}
@@ -29,7 +29,7 @@ lengths t k =
     record {
       applied = λ w d h. h;
       sent = λ w l h. h;
-      entered = λ w cause e l h. entered-length cause (memoriesIn (w .lent)) (w .state .machine) ∙ h;
+      entered = λ w cause e f l h. entered-length cause (memoriesIn (w .lent)) (w .state .machine) ∙ h;
       waited = λ w f l h. h;
       stepped = λ w i f e l h. step-length i (memoriesIn (w .lent)) (w .state .machine) ∙ h;
     }
@@ -44,7 +44,7 @@ below t =
     record {
       applied = λ w d h. h;
       sent = λ w l h. h;
-      entered = λ w cause e l h. let k = entry-most cause (memoriesIn (w .lent)) (w .state .machine) in omega arith;
+      entered = λ w cause e f l h. let k = entry-most cause (memoriesIn (w .lent)) (w .state .machine) in omega arith;
       waited = λ w f l h. omega arith;
       stepped = λ w i f e l h. let k = step-cycles (memoriesIn (w .lent)) (w .state .machine) i e .1 in omega arith;
     }
@@ -52,11 +52,12 @@ below t =
 pub cycles-bound : (t : Terms) (m : Machine) (l : Lent) → ranOf t m l .world .state .cycles .0 ≤ t .limit + 11
 cycles-bound t m l = run-holds t (λ w. w .state .cycles .0 ≤ t .limit + 11) (below t) (startWorld m l) (omega arith)
 
--- reply 0 is "given exactly when the cycle limit N is reached"; 8 and 9 come before it
+-- reply 0 is "given exactly when the cycle limit N is reached"; 8, 9 and 11 come before it
 abbrev pub Reached : Stop → ℕ → ℕ → Type 0
 Reached Limit n cycles = n ≤ cycles
 Reached Undefined n cycles = cycles < n
 Reached Full n cycles = cycles < n
+Reached LogFull n cycles = cycles < n
 
 module _ (t : Terms) where
   abbrev Ends : Ended → Type 0
@@ -71,8 +72,8 @@ module _ (t : Terms) where
       boundary-cases (Then (λ v. Unit) Ends) t v
       (λ l. l)
       (λ l. omega arith)
-      (λ l g. act-cases (Then (λ v. Unit) Ends) _ (λ cause e. tt) (λ e f. tt) (omega arith) (λ i f e. tt))
-      (λ l. act-cases (Then (λ v. Unit) Ends) _ (λ cause e. tt) (λ e f. tt) (omega arith) (λ i f e. tt)))
+      (λ l g. act-cases (Then (λ v. Unit) Ends) (t .watch) _ (λ cause e f. omega arith) (λ cause e f. tt) (λ e f. tt) (omega arith) (λ i f e. tt))
+      (λ l. act-cases (Then (λ v. Unit) Ends) (t .watch) _ (λ cause e f. omega arith) (λ cause e f. tt) (λ e f. tt) (omega arith) (λ i f e. tt)))
       w tt
 
 -- from a start, instructions, entries and leaps are at most the cycles, and records used at most the place
@@ -100,7 +101,7 @@ grows s t =
           record { place = omega arith; used = omega arith; cycles = h .cycles; instructions = h .instructions; entries = h .entries; sent = h .sent; leaps = h .leaps };
       sent = λ w l h.
           record { place = h .place; used = h .used; cycles = h .cycles; instructions = h .instructions; entries = h .entries; sent = omega arith; leaps = h .leaps };
-      entered = λ w cause e l h.
+      entered = λ w cause e f l h.
           record { place = h .place; used = h .used; cycles = omega arith; instructions = omega arith; entries = omega arith; sent = h .sent; leaps = omega arith };
       waited = λ w f l h.
           record { place = h .place; used = h .used; cycles = omega arith; instructions = omega arith; entries = omega arith; sent = h .sent; leaps = omega arith };
@@ -131,7 +132,7 @@ ahead t =
           let k = step-ahead (t .session) (w .state) (due-there (t .session) _ _ d .0) h in
           record { before = timeAt (t .session) (w .state .place); sound = k .rest; within = k .within };
       sent = λ w l h. record { before = h .before; sound = h .sound; within = h .within };
-      entered = λ w cause e l h. record { before = h .before; sound = h .sound; within = h .within };
+      entered = λ w cause e f l h. record { before = h .before; sound = h .sound; within = h .within };
       waited = λ w f l h. record { before = h .before; sound = h .sound; within = h .within };
       stepped = λ w i f e l h. record { before = h .before; sound = h .sound; within = h .within };
     }

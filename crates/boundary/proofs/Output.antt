@@ -38,7 +38,7 @@ filled before k t =
     record {
       applied = λ w d h. h;
       sent = λ w l h. filled-byte before (w .lent .output) k (w .state .sent .0) _ h l;
-      entered = λ w cause e l h. h;
+      entered = λ w cause e f l h. h;
       waited = λ w f l h. h;
       stepped = λ w i f e l h. h;
     }

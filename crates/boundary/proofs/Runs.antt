@@ -20,40 +20,43 @@ use Rattle.machine.specs.Interrupts.{pendingOf}
 use Rattle.machine.specs.Steps.{entryCycles, enteredOf, lookOf, stepOf}
 use Rattle.machine.proofs.Steps.{step-cycles}
 use Rattle.boundary.specs.World.{memoriesIn, Terms, World, worldOf, Ended, endedOf}
-use Rattle.boundary.specs.Boundary.{fedWorld, sendsOf, sentState, sentWorld, enteredWorld, waitedState, waitedWorld}
+use Rattle.boundary.specs.Boundary.{fedWorld, sendsOf, sentState, sentWorld, lacksRow, loggedWorld, enteredWorld, waitedState, waitedWorld}
 use Rattle.boundary.specs.Boundary.{steppedWorld, executedOf, onPending, actOf, sendOf, boundaryOf, cyclesLeft, runOf}
 use Rattle.boundary.specs.Counts.{Fine}
 use Rattle.boundary.specs.declared.State.{State}
-use Rattle.boundary.specs.declared.Stop.the-variants.{Limit, Undefined, Full}
+use Rattle.boundary.specs.declared.Stop.the-variants.{Limit, Undefined, Full, LogFull}
+use Rattle.boundary.specs.declared.Watch.{Watch}
 use Rattle.laws.proofs.Conds.{cases}
 use Rattle.boundary.proofs.Cases.{records-fine, records-cycles}
 
 -- each way that a boundary can go
 module _ (P : Turn World Ended → Type 0) where
-  pub act-cases : (w : World)
-      → ((cause : Cause) → pendingOf (w .state .machine) ≡ Due cause → P (more (enteredWorld cause w)))
+  pub act-cases : (watch : Watch) (w : World)
+      → ((cause : Cause) → pendingOf (w .state .machine) ≡ Due cause → lacksRow watch (w .state) (w .lent .log) ≡ true → P (done (endedOf LogFull w)))
+      → ((cause : Cause) → pendingOf (w .state .machine) ≡ Due cause → lacksRow watch (w .state) (w .lent .log) ≡ false
+      → P (more (enteredWorld cause (loggedWorld watch cause w))))
       → (pendingOf (w .state .machine) ≡ Nothing → idles (w .state .machine .chip .registers) ≡ true → P (more (waitedWorld w)))
       → P (done (endedOf Undefined w))
       → ((i : Instruction) → idles (w .state .machine .chip .registers) ≡ false → lookOf (memoriesIn (w .lent)) (w .state .machine) ≡ looks.Runs i
       → P (more (steppedWorld (stepOf i (memoriesIn (w .lent)) (w .state .machine)) w)))
-      → P (actOf w)
+      → P (actOf watch w)
   unfolding actOf
-  act-cases w entry idle bad op = by (pendingOf (w .state .machine)) refl
+  act-cases watch w lacks entry idle bad op = by (pendingOf (w .state .machine)) refl
     where
       looked : idles (w .state .machine .chip .registers) ≡ false → (k : Look) → lookOf (memoriesIn (w .lent)) (w .state .machine) ≡ k → P (executedOf k w)
       looked f looks.Undefined e = bad
       looked f (looks.Runs i) e = op i f e
 
-      by : (p : Pending) → pendingOf (w .state .machine) ≡ p → P (onPending p w)
-      by (Due cause) e = entry cause e
+      by : (p : Pending) → pendingOf (w .state .machine) ≡ p → P (onPending watch p w)
+      by (Due cause) e = cases P (lacksRow watch (w .state) (w .lent .log)) (lacks cause e) (entry cause e)
       by Nothing e = cases P (idles (w .state .machine .chip .registers)) (idle e) (λ f. looked f _ refl)
 
   pub boundary-cases : (t : Terms) (w : World)
       → (t .limit ≤ w .state .cycles .0 → P (done (endedOf Limit w)))
       → (w .state .cycles .0 < t .limit → P (done (endedOf Full (fedWorld (t .session) w))))
       → (w .state .cycles .0 < t .limit → fedWorld (t .session) w .state .sent .0 < length (w .lent .output)
-      → P (actOf (sentWorld (fedWorld (t .session) w))))
-      → (w .state .cycles .0 < t .limit → P (actOf (fedWorld (t .session) w)))
+      → P (actOf (t .watch) (sentWorld (fedWorld (t .session) w))))
+      → (w .state .cycles .0 < t .limit → P (actOf (t .watch) (fedWorld (t .session) w)))
       → P (boundaryOf t w)
   unfolding boundaryOf sendOf
   boundary-cases t w end full send rest =
@@ -77,10 +80,11 @@ module _ (t : Terms) where
   abbrev Falls : World → Turn World Ended → Type 0
   Falls w = Then (λ v. cyclesLeft t v < cyclesLeft t w) (λ e. Unit)
 
-  act-falls : (v w : World) → w .state .cycles .0 ≡ v .state .cycles .0 → w .state .cycles .0 < t .limit → Falls w (actOf v)
+  act-falls : (v w : World) → w .state .cycles .0 ≡ v .state .cycles .0 → w .state .cycles .0 < t .limit → Falls w (actOf (t .watch) v)
   unfolding enteredWorld waitedState
   act-falls v w h l =
-      act-cases (Falls w) v (λ cause e. let k = entry-takes cause v in omega arith) (λ e f. omega arith) tt (λ i f e. let k = step-takes i v e in omega arith)
+      act-cases (Falls w) (t .watch) v (λ cause e f. tt) (λ cause e f. let k = entry-takes cause v in omega arith) (λ e f. omega arith) tt
+      (λ i f e. let k = step-takes i v e in omega arith)
 
   -- every boundary that goes on passes a cycle
   pub run-falls : (w v : World) → boundaryOf t w ≡ more v → cyclesLeft t v < cyclesLeft t w
@@ -122,15 +126,16 @@ module _ (t : Terms) where
   unfolding sentState
   sent-fine s h = record { instructions = h .instructions; entries = h .entries; leaps = h .leaps; used = h .used }
 
-  act-fine : (w : World) → Fine (w .state) → FineThen (actOf w)
+  act-fine : (w : World) → Fine (w .state) → FineThen (actOf (t .watch) w)
   unfolding enteredWorld waitedState
   act-fine w h =
       let s = w .state in
       let x = h .instructions in
       let y = h .entries in
       let z = h .leaps in
-      act-cases FineThen w
-      (λ cause e.
+      act-cases FineThen (t .watch) w
+      (λ cause e f. h)
+      (λ cause e f.
       let k = entry-takes cause w in
       record { instructions = omega arith; entries = omega arith; leaps = omega arith; used = h .used })
       (λ e f.

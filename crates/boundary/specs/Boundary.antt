@@ -1,6 +1,6 @@
--- One boundary of a run, in 01's six steps and their order, and the run as boundaries until one stops it.
-use Prim.Native.Nat.{ℕ, _+_, _-_}
-use mathlib.Core.Bool.{Bool, true, false, cond}
+-- One boundary of a run, in 01's six steps and their order, with 02's wake log, and the run as boundaries until one stops it.
+use Prim.Native.Nat.{ℕ, _+_, _-_, _%_, _^_}
+use mathlib.Core.Bool.{Bool, true, false, not, cond, _&&_}
 use mathlib.Core.List.{List}
 use lib.Dec.{leb}
 use lib.ListN.{length, set}
@@ -16,15 +16,18 @@ use Rattle.machine.specs.declared.Look.the-variants as looks
 use Rattle.machine.specs.declared.Pending.{Pending}
 use Rattle.machine.specs.declared.Pending.the-variants.{Nothing, Due}
 use Rattle.machine.specs.Machine.{passedOf}
-use Rattle.machine.specs.Interrupts.{pendingOf}
+use Rattle.machine.specs.Interrupts.{pendingOf, causeNumber, behindOf}
 use Rattle.machine.specs.Events.{appliedOf, onBus}
 use Rattle.machine.specs.Steps.{Stepped, enteredOf, lookOf, stepOf}
+use Rattle.wake_log.specs.declared.Row.{Row}
+use Rattle.wake_log.specs.Log.{fitsRow, withRow}
 use Rattle.boundary.specs.declared.State.{State}
-use Rattle.boundary.specs.declared.Stop.the-variants.{Limit, Undefined, Full}
+use Rattle.boundary.specs.declared.Stop.the-variants.{Limit, Undefined, Full, LogFull}
+use Rattle.boundary.specs.declared.Watch.{Watch}
 use Rattle.boundary.specs.declared.Progress.{Progress}
 use Rattle.boundary.specs.declared.Progress.the-variants.{Going, Stopped}
 use Rattle.boundary.specs.declared.Turned.{Turned}
-use Rattle.boundary.specs.World.{Lent, memoriesIn, withMemories, withOutput, Terms, World, worldOf, Ended, endedOf}
+use Rattle.boundary.specs.World.{Lent, memoriesIn, withMemories, withOutput, withLog, Terms, World, worldOf, Ended, endedOf}
 use Rattle.boundary.specs.World.{byEntry, byWaiting, byInstructions, grownTo}
 
 -- Step 2: "Apply every unused record with time not above the count, in file order."
@@ -79,6 +82,25 @@ sentOutput s output = set output (s .sent .0) (s .machine .chip .bus .serial .tr
 abbrev pub sentWorld : World → World
 sentWorld w = worldOf (sentState (w .state)) (withOutput (w .lent) (sentOutput (w .state) (w .lent .output)))
 
+-- 02's row of an entry: "the cycle, the cause, and which lower causes were waiting behind it". The cycle is the count, and what had passed before the run.
+abbrev pub rowOf : Watch → Cause → State → Row
+rowOf watch cause s =
+    record {
+      cycle = (watch .since .0 + s .cycles .0) % 2 ^ 32;
+      cause = causeNumber cause;
+      behind = behindOf cause (s .machine);
+    }
+
+-- "no room for a log row": a row for each entry before is in the log
+abbrev pub lacksRow : Watch → State → List ℕ → Bool
+lacksRow watch s log = watch .log && not (fitsRow log (s .entries .0))
+
+unfoldable pub loggedOf : Watch → Cause → State → List ℕ → List ℕ
+loggedOf watch cause s log = cond (watch .log) (withRow (rowOf watch cause s) (s .entries .0) log) log
+
+abbrev pub loggedWorld : Watch → Cause → World → World
+loggedWorld watch cause w = worldOf (w .state) (withLog (w .lent) (loggedOf watch cause (w .state) (w .lent .log)))
+
 -- Step 4: "Accept an interrupt"
 unfoldable pub enteredWorld : Cause → World → World
 enteredWorld cause w =
@@ -100,30 +122,31 @@ abbrev pub executedOf : Look → World → Turn World Ended
 executedOf looks.Undefined w = done (endedOf Undefined w)
 executedOf (looks.Runs i) w = more (steppedWorld (stepOf i (memoriesIn (w .lent)) (w .state .machine)) w)
 
--- steps 4 to 6
-abbrev pub onPending : Pending → World → Turn World Ended
-onPending (Due cause) w = more (enteredWorld cause w)
-onPending Nothing w =
+-- steps 4 to 6: "11 .. given at the boundary before the entry"
+abbrev pub onPending : Watch → Pending → World → Turn World Ended
+onPending watch (Due cause) w =
+    cond (lacksRow watch (w .state) (w .lent .log)) (done (endedOf LogFull w)) (more (enteredWorld cause (loggedWorld watch cause w)))
+onPending watch Nothing w =
     cond (idles (w .state .machine .chip .registers))
     (more (waitedWorld w))
     (executedOf (lookOf (memoriesIn (w .lent)) (w .state .machine)) w)
 
-unfoldable pub actOf : World → Turn World Ended
-actOf w = onPending (pendingOf (w .state .machine)) w
+unfoldable pub actOf : Watch → World → Turn World Ended
+actOf watch w = onPending watch (pendingOf (w .state .machine)) w
 
 -- steps 3 to 6: "no room gives 9"
-unfoldable pub sendOf : World → Turn World Ended
-sendOf w =
+unfoldable pub sendOf : Watch → World → Turn World Ended
+sendOf watch w =
     cond (sendsOf (w .state))
-    (cond (leb (length (w .lent .output)) (w .state .sent .0)) (done (endedOf Full w)) (actOf (sentWorld w)))
-    (actOf w)
+    (cond (leb (length (w .lent .output)) (w .state .sent .0)) (done (endedOf Full w)) (actOf watch (sentWorld w)))
+    (actOf watch w)
 
 -- steps 1 to 6: "Count at least N: reply 0."
 unfoldable pub boundaryOf : Terms → World → Turn World Ended
 boundaryOf t w =
     cond (leb (t .limit) (w .state .cycles .0))
     (done (endedOf Limit w))
-    (sendOf (fedWorld (t .session) w))
+    (sendOf (t .watch) (fedWorld (t .session) w))
 
 -- the run: boundaries until one stops it; each that goes on passes a cycle, so that N less the count falls
 abbrev pub cyclesLeft : Terms → World → ℕ

@@ -1,39 +1,64 @@
 -- What a run goes through, what it is asked, and how it ends.
-use Prim.Native.Nat.{ℕ, _+_}
-use mathlib.Core.Bool.{Bool}
-use mathlib.Core.List.{List}
+use Prim.Native.Nat.{ℕ, _+_, _*_, _%_, _^_}
+use mathlib.Core.Bool.{Bool, false, cond}
+use mathlib.Core.List.{List, []}
 use Rattle.bus.specs.Access.{Memories, memories}
 use Rattle.machine.specs.declared.Machine.{Machine}
 use Rattle.boundary.specs.declared.State.{State}
 use Rattle.boundary.specs.declared.Grown.{Grown}
 use Rattle.boundary.specs.declared.Stop.{Stop}
-use Rattle.boundary.specs.declared.Stop.the-variants.{Limit, Undefined, Full}
+use Rattle.boundary.specs.declared.Stop.the-variants.{Limit, Undefined, Full, LogFull}
+use Rattle.boundary.specs.declared.Watch.{Watch}
 
--- what a call lends: the image and the output
+-- what a call lends: the image, the output, and 02's "second lent buffer", the wake log
 pub record Lent : Type 0 where
   pub image : List ℕ
   pub output : List ℕ
+  pub log : List ℕ
 
+abbrev pub lending : List ℕ → List ℕ → List ℕ → Lent
+lending image output log = record { image = image; output = output; log = log }
+
+-- what a run without a log is lent
 abbrev pub lent : List ℕ → List ℕ → Lent
-lent image output = record { image = image; output = output }
+lent image output = lending image output []
 
 -- the memories among it that accesses see, and others in their place
 abbrev pub memoriesIn : Lent → Memories
 memoriesIn l = memories (l .image)
 
 abbrev pub withMemories : Lent → Memories → Lent
-withMemories l memory = lent (memory .image) (l .output)
+withMemories l memory = lending (memory .image) (l .output) (l .log)
 
 abbrev pub withOutput : Lent → List ℕ → Lent
-withOutput l output = lent (l .image) output
+withOutput l output = lending (l .image) output (l .log)
 
--- what a run is asked: its session and its limit N
+abbrev pub withLog : Lent → List ℕ → Lent
+withLog l log = lending (l .image) (l .output) log
+
+-- what a run is asked: its session, its limit N, and what is watched
 pub record Terms : Type 0 where
   pub session : List ℕ
   pub limit : ℕ
+  pub watch : Watch
+
+abbrev pub watching : List ℕ → ℕ → Watch → Terms
+watching session limit watch = record { session = session; limit = limit; watch = watch }
+
+-- the ordinary run: nothing is watched
+abbrev pub unwatched : Watch
+unwatched = record { log = false; since = record { 0 = 0 } }
 
 abbrev pub terms : List ℕ → ℕ → Terms
-terms session limit = record { session = session; limit = limit }
+terms session limit = watching session limit unwatched
+
+-- what a run watches that goes on after so many cycles of another
+abbrev pub later : Watch → ℕ → Watch
+later watch cycles = record { log = watch .log; since = record { 0 = (watch .since .0 + cycles) % 2 ^ 32 } }
+
+-- how many bytes of the log so many entries fill
+abbrev pub loggedBytes : Watch → ℕ → ℕ
+loggedBytes watch entries = cond (watch .log) (8 * entries) 0
 
 -- what a run goes through: the machine with the counts, and what was lent
 pub record World : Type 0 where
@@ -50,11 +75,12 @@ pub record Ended : Type 0 where
 abbrev pub endedOf : Stop → World → Ended
 endedOf k w = record { stop = k; world = w }
 
--- 01's number of each stop
+-- the number of each stop, by 01 and 02
 abbrev pub stopNumber : Stop → ℕ
 stopNumber Limit = 0
 stopNumber Undefined = 8
 stopNumber Full = 9
+stopNumber LogFull = 11
 
 -- how far the counts of cycles, instructions, entries and leaps have grown
 abbrev pub grown : ℕ → ℕ → ℕ → ℕ → Grown

@@ -9,14 +9,18 @@ use machine::Cause;
 use machine::Look;
 use machine::Machine;
 use machine::Pending;
+use std::num::wrapping_add_u32;
+use wake_log::Row;
 ghost use mathlib.Core.Path.{_≡_};
+ghost use mathlib.Core.Bool.{false};
 ghost use mathlib.Core.List.{List};
 ghost use Prim.Native.Nat.{ℕ, _+_, _<_, _≤_, _^_};
 ghost use lib.ListN.{length};
-ghost use Rattle.boundary.specs.World.{lent, terms, worldOf, grownTo};
-ghost use Rattle.boundary.specs.Boundary.{recordTaken, recordsOf, sentState, waitedState, enteredWorld};
-ghost use Rattle.boundary.specs.Boundary.{executedOf, actOf, sendOf, boundaryOf, turned};
+ghost use Rattle.boundary.specs.World.{Lent, lending, withMemories, watching, unwatched, later, loggedBytes, worldOf, grownTo};
+ghost use Rattle.boundary.specs.Boundary.{recordTaken, recordsOf, sentState, waitedState, rowOf, lacksRow, loggedOf, enteredWorld};
+ghost use Rattle.boundary.specs.Boundary.{executedOf, onPending, actOf, sendOf, boundaryOf, turned};
 ghost use Rattle.boundary.specs.Counts.{Fine, Ready, Fits};
+ghost use Rattle.machine.specs.declared.Pending.the-variants.{Due};
 ghost use Rattle.machine.specs.Steps.{lookOf};
 ghost use Rattle.bus.specs.Access.{memories};
 
@@ -41,10 +45,17 @@ pub struct Grown {
     pub leaps: Leaps,
 }
 
+// What is watched: with `log` each interrupt entry is logged. `since` are the cycles that had passed before the run; they are added to a row's count.
+pub struct Watch {
+    pub log: bool,
+    pub since: Cycles,
+}
+
 pub enum Stop {
     Limit,
     Undefined,
     Full,
+    LogFull,
 }
 
 pub enum Progress {
@@ -55,6 +66,37 @@ pub enum Progress {
 pub struct Turned {
     pub state: State,
     pub progress: Progress,
+}
+
+impl Watch {
+    pub fn nothing() -> Watch
+        ensures { λ r. ⌜ r ≡ unwatched ⌝ }
+    {
+        Watch {
+            log: false,
+            since: Cycles(0),
+        }
+    }
+
+    // For a run that goes on after so many cycles of another.
+    pub fn later(self, cycles: Cycles) -> Watch
+        ensures { λ r. ⌜ r ≡ later self (cycles .0) ⌝ }
+    {
+        Watch {
+            log: self.log,
+            since: Cycles(wrapping_add_u32(self.since.0, cycles.0)),
+        }
+    }
+
+    // How many bytes of the log so many entries fill.
+    pub fn logged(self, entries: Entries) -> usize
+        ensures { λ r. ⌜ r ≡ loggedBytes self (entries .0) ⌝ }
+    {
+        if self.log {
+            return 8 * (entries.0 as usize);
+        }
+        0
+    }
 }
 
 impl State {
@@ -122,10 +164,11 @@ impl State {
         self
     }
 
-    // Step 4.
+    // An interrupt is entered.
     fn enter(self, cause: Cause, image: &mut [u8]) -> State
         requires { ⌜ Ready self ⌝ }
-        ensures { λ r. ⌜ ((o : List ℕ) → worldOf r (lent (now (image .exit)) o) ≡ enteredWorld cause (worldOf self (lent (now (image .entry)) o))) ⌝ }
+        ensures { λ r. ⌜ ((l : Lent) → worldOf r (withMemories l (memories (now (image .exit))))
+            ≡ enteredWorld cause (worldOf self (withMemories l (memories (now (image .entry)))))) ⌝ }
     {
         let e = self.machine.enter(cause, image);
         let cycles = e.cycles;
@@ -136,6 +179,53 @@ impl State {
             leaps: Leaps(0),
         };
         self.moved(e.machine, by, false)
+    }
+
+    // The row of an entry.
+    fn row(self, watch: Watch, cause: Cause) -> Row
+        ensures { λ r. ⌜ r ≡ rowOf watch cause self ⌝ }
+    {
+        Row {
+            cycle: wrapping_add_u32(watch.since.0, self.cycles.0),
+            cause: machine::cause_number(cause),
+            behind: self.machine.behind(cause),
+        }
+    }
+
+    // Whether the log has no room for a row that is asked for.
+    fn lacks_row(self, watch: Watch, log: &[u8]) -> bool
+        ensures { λ r. ⌜ r ≡ lacksRow watch self (now (log .entry)) ⌝ }
+    {
+        watch.log & !wake_log::fits_row(log, self.entries.0)
+    }
+
+    // An entry is logged, where that is asked for.
+    fn log_entry(self, watch: Watch, cause: Cause, log: &mut [u8])
+        requires { ⌜ lacksRow watch self (now log) ≡ false ⌝ }
+        ensures { λ _. ⌜ now (log .exit) ≡ loggedOf watch cause self (now (log .entry)) ⌝ }
+    {
+        if watch.log {
+            wake_log::write_row(log, self.entries.0, self.row(watch, cause));
+        }
+    }
+
+    // Step 4.
+    fn accept(self, watch: Watch, cause: Cause, image: &mut [u8], log: &mut [u8]) -> Turned
+        requires { ⌜ Ready self ⌝ }
+        ensures { λ r. ⌜ ((o : List ℕ) → turned r (lending (now (image .exit)) o (now (log .exit)))
+            ≡ onPending watch (Due cause) (worldOf self (lending (now (image .entry)) o (now (log .entry))))) ⌝ }
+    {
+        if self.lacks_row(watch, &log[..]) {
+            return Turned {
+                state: self,
+                progress: Progress::Stopped(Stop::LogFull),
+            };
+        }
+        self.log_entry(watch, cause, log);
+        Turned {
+            state: self.enter(cause, image),
+            progress: Progress::Going,
+        }
     }
 
     // Step 5.
@@ -157,8 +247,8 @@ impl State {
     // Step 6.
     fn step(self, image: &mut [u8]) -> Turned
         requires { ⌜ Ready self ⌝ }
-        ensures { λ r. ⌜ ((o : List ℕ) → turned r (lent (now (image .exit)) o)
-            ≡ executedOf (lookOf (memories (now (image .entry))) (self .machine)) (worldOf self (lent (now (image .entry)) o))) ⌝ }
+        ensures { λ r. ⌜ ((l : Lent) → turned r (withMemories l (memories (now (image .exit))))
+            ≡ executedOf (lookOf (memories (now (image .entry))) (self .machine)) (worldOf self (withMemories l (memories (now (image .entry)))))) ⌝ }
     {
         let look = self.machine.look(image);
         match look {
@@ -184,16 +274,14 @@ impl State {
     }
 
     // Steps 4 to 6.
-    fn act(self, image: &mut [u8]) -> Turned
+    fn act(self, watch: Watch, image: &mut [u8], log: &mut [u8]) -> Turned
         requires { ⌜ Ready self ⌝ }
-        ensures { λ r. ⌜ ((o : List ℕ) → turned r (lent (now (image .exit)) o) ≡ actOf (worldOf self (lent (now (image .entry)) o))) ⌝ }
+        ensures { λ r. ⌜ ((o : List ℕ) → turned r (lending (now (image .exit)) o (now (log .exit)))
+            ≡ actOf watch (worldOf self (lending (now (image .entry)) o (now (log .entry))))) ⌝ }
     {
         let p = self.machine.pending();
         match p {
-            Pending::Due(cause) => Turned {
-                state: self.enter(cause, image),
-                progress: Progress::Going,
-            },
+            Pending::Due(cause) => self.accept(watch, cause, image, log),
             Pending::Nothing => {
                 if self.machine.chip.registers.idles() {
                     return Turned {
@@ -207,10 +295,10 @@ impl State {
     }
 
     // Steps 3 to 6.
-    fn send(self, image: &mut [u8], output: &mut [u8]) -> Turned
+    fn send(self, watch: Watch, image: &mut [u8], output: &mut [u8], log: &mut [u8]) -> Turned
         requires { ⌜ Ready self ⌝ }
-        ensures { λ r. ⌜ turned r (lent (now (image .exit)) (now (output .exit)))
-            ≡ sendOf (worldOf self (lent (now (image .entry)) (now (output .entry)))) ⌝ }
+        ensures { λ r. ⌜ turned r (lending (now (image .exit)) (now (output .exit)) (now (log .exit)))
+            ≡ sendOf watch (worldOf self (lending (now (image .entry)) (now (output .entry)) (now (log .entry)))) ⌝ }
     {
         if self.machine.chip.bus.serial.wants_to_send() {
             let at = self.sent.0;
@@ -221,16 +309,25 @@ impl State {
                 };
             }
             output[at] = self.machine.chip.bus.serial.transmit;
-            return self.after_sending().act(image);
+            return self.after_sending().act(watch, image, log);
         }
-        self.act(image)
+        self.act(watch, image, log)
     }
 
     // One boundary.
-    pub fn boundary(self, session: &[u8], n: u32, image: &mut [u8], output: &mut [u8]) -> Turned
+    pub fn boundary(
+        self,
+        session: &[u8],
+        n: u32,
+        watch: Watch,
+        image: &mut [u8],
+        output: &mut [u8],
+        log: &mut [u8],
+    ) -> Turned
         requires { ⌜ Fine self × (n ≤ 1000000000) ⌝ }
-        ensures { λ r. ⌜ turned r (lent (now (image .exit)) (now (output .exit)))
-            ≡ boundaryOf (terms (now (session .entry)) n) (worldOf self (lent (now (image .entry)) (now (output .entry)))) ⌝ }
+        ensures { λ r. ⌜ turned r (lending (now (image .exit)) (now (output .exit)) (now (log .exit)))
+            ≡ boundaryOf (watching (now (session .entry)) n watch)
+            (worldOf self (lending (now (image .entry)) (now (output .entry)) (now (log .entry)))) ⌝ }
     {
         if n <= self.cycles.0 {
             return Turned {
@@ -238,6 +335,7 @@ impl State {
                 progress: Progress::Stopped(Stop::Limit),
             };
         }
-        self.apply_records(session, image).send(image, output)
+        self.apply_records(session, image)
+            .send(watch, image, output, log)
     }
 }

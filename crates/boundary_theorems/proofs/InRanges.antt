@@ -31,7 +31,7 @@ good t =
             applied-ranges (eventAt (t .session) (w .state .place)) (memoriesIn (w .lent)) (w .state .machine) event (h .1),
           );
       sent = λ w l h. (a .sent w l (h .0), bus.sent-ranges (w .state .machine .chip .bus) (h .1));
-      entered = λ w cause e l h. (a .entered w cause e l (h .0), entered-ranges cause (memoriesIn (w .lent)) (w .state .machine) (h .1));
+      entered = λ w cause e f l h. (a .entered w cause e f l (h .0), entered-ranges cause (memoriesIn (w .lent)) (w .state .machine) (h .1));
       waited = λ w f l h. (a .waited w f l (h .0), passed-ranges 1 (w .state .machine) (h .1));
       stepped = λ w i f e l h. (a .stepped w i f e l (h .0), step-ranges i (memoriesIn (w .lent)) (w .state .machine) (h .1));
     }

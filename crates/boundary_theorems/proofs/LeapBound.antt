@@ -35,7 +35,7 @@ bounded t =
     record {
       applied = λ w d h. let z = h .count in let y = most (w .state .inside) in record { waits = λ e. absurd (false≢true e); count = omega arith };
       sent = λ w l h. let z = h .count in let y = most (w .state .inside) in record { waits = λ e. absurd (false≢true e); count = omega arith };
-      entered = λ w cause e l h. let z = h .count in let y = most (w .state .inside) in record { waits = λ e. absurd (false≢true e); count = omega arith };
+      entered = λ w cause e f l h. let z = h .count in let y = most (w .state .inside) in record { waits = λ e. absurd (false≢true e); count = omega arith };
       waited = λ w f l h. let z = goes-on _ _ (w .state .inside) (h .count) in record { waits = λ _. f; count = omega arith };
       stepped = λ w i f e l h.
           let z = over _ _ (w .state .inside) (λ i. false≢true (sym f ∙ h .waits i)) (h .count) in

@@ -53,7 +53,7 @@ same r a v taken t =
     record {
       applied = λ w d h. (applied-r (eventAt (t .session) (w .state .place)) (memoriesIn (w .lent)) (w .state .machine) ∙ h .0, h .1);
       sent = λ w l h. h;
-      entered = λ w cause e l h.
+      entered = λ w cause e f l h.
           let m = w .state .machine in
           let memory = memoriesIn (w .lent) in
           (entered-r cause memory m ∙ h .0, entered-untaken cause memory m a (rw (h .0) taken) ∙ h .1);

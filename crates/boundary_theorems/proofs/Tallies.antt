@@ -16,15 +16,18 @@ use Rattle.session.proofs.Laws.{next-after, due-there}
 use Rattle.registers.specs.Registers.{idles}
 use Rattle.bus.specs.Access.{Memories}
 use Rattle.machine.specs.declared.Machine.{Machine}
+use Rattle.machine.specs.declared.Cause.{Cause}
 use Rattle.machine.specs.declared.Look.{Look}
 use Rattle.machine.specs.declared.Look.the-variants.{Undefined, Runs}
 use Rattle.machine.specs.declared.Pending.{Pending}
 use Rattle.machine.specs.declared.Pending.the-variants.{Nothing, Due}
 use Rattle.machine.specs.Interrupts.{pendingOf}
-use Rattle.machine.specs.Steps.{enteredOf, lookOf, stepOf}
+use Rattle.machine.specs.Steps.{entryCycles, enteredOf, lookOf, stepOf}
 use Rattle.boundary.specs.declared.State.{State}
-use Rattle.boundary.specs.World.{Lent, memoriesIn, Terms, World, Ended}
-use Rattle.boundary.specs.Boundary.{recordTaken, recordsOf, fedWorld, sendsOf, sentState, sentWorld, enteredWorld, waitedState, waitedWorld}
+use Rattle.boundary.specs.declared.Stop.the-variants.{LogFull}
+use Rattle.boundary.specs.declared.Watch.{Watch}
+use Rattle.boundary.specs.World.{Lent, memoriesIn, Terms, World, Ended, endedOf}
+use Rattle.boundary.specs.Boundary.{recordTaken, recordsOf, fedWorld, sendsOf, sentState, sentWorld, lacksRow, loggedWorld, enteredWorld, waitedState, waitedWorld}
 use Rattle.boundary.specs.Boundary.{executedOf, onPending, actOf, sendOf, boundaryOf, runOf}
 use Rattle.boundary.specs.Start.{startWorld, ranOf}
 use Rattle.laws.proofs.Conds.{picks, passes, cases2}
@@ -116,12 +119,12 @@ module _ (s : State) (a b : ℕ) (w : World) (h : Adds (tally a b 0) s (w .state
   takes : (k : ℕ) → w .state .cycles .0 + k ≡ s .cycles .0 + k
   takes k = ap (λ (c : ℕ). c + k) (h .cycles ∙ sym (plus-none (s .cycles .0) 0 refl))
 
-  act-adds : AddsThen s (tally a b (cyclesAt (memoriesIn (w .lent)) (w .state .machine))) (actOf w)
+  act-adds : (watch : Watch) → AddsThen s (tally a b (cyclesAt watch w)) (actOf watch w)
   unfolding actOf enteredWorld waitedState enteredOf stepOf
-  act-adds = by (pendingOf (w .state .machine))
+  act-adds watch = by (pendingOf (w .state .machine))
     where
       looked : (k : Look) → AddsThen s (tally a b (lookCycles k)) (executedOf k w)
-      looked Undefined = record { cycles = h .cycles; used = h .used; sent = h .sent }
+      looked Undefined = h
       looked (Runs i) = record { cycles = takes _; used = h .used; sent = h .sent }
 
       look : Look
@@ -131,8 +134,14 @@ module _ (s : State) (a b : ℕ) (w : World) (h : Adds (tally a b 0) s (w .state
       goes true = record { cycles = takes 1; used = h .used; sent = h .sent }
       goes false = looked look
 
-      by : (p : Pending) → AddsThen s (tally a b (cyclesBy p (memoriesIn (w .lent)) (w .state .machine))) (onPending p w)
-      by (Due cause) = record { cycles = takes _; used = h .used; sent = h .sent }
+      accepts : (cause : Cause) (lacks : Bool)
+          → AddsThen s (tally a b (cond lacks 0 (entryCycles (w .state .machine))))
+          (cond lacks (done (endedOf LogFull w)) (more (enteredWorld cause (loggedWorld watch cause w))))
+      accepts cause true = h
+      accepts cause false = record { cycles = takes _; used = h .used; sent = h .sent }
+
+      by : (p : Pending) → AddsThen s (tally a b (cyclesBy watch p w)) (onPending watch p w)
+      by (Due cause) = accepts cause (lacksRow watch (w .state) (w .lent .log))
       by Nothing = goes (idles (w .state .machine .chip .registers))
 
 -- the counts of a state are the totals of the tallies
@@ -161,8 +170,8 @@ module _ (t : Terms) where
       (λ _. cases2 (AddsThen (w .state)) (sendsOf (r .state))
       (λ _. cases2 (AddsThen (w .state)) (leb (length (w .lent .output)) (r .state .sent .0))
       (λ _. fed)
-      (λ _. act-adds (w .state) k 1 (sentWorld r) (record { cycles = fed .cycles; used = fed .used; sent = one-more _ _ (fed .sent) })))
-      (λ _. act-adds (w .state) k 0 r fed))
+      (λ _. act-adds (w .state) k 1 (sentWorld r) (record { cycles = fed .cycles; used = fed .used; sent = one-more _ _ (fed .sent) }) (t .watch)))
+      (λ _. act-adds (w .state) k 0 r fed (t .watch)))
     where
       r : World
       r = fedWorld (t .session) w

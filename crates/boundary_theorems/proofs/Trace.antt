@@ -19,8 +19,9 @@ use Rattle.machine.specs.Interrupts.{pendingOf}
 use Rattle.machine.specs.Steps.{lookOf}
 use Rattle.boundary.specs.declared.State.{State}
 use Rattle.boundary.specs.declared.Stop.the-variants.{Full}
+use Rattle.boundary.specs.declared.Watch.{Watch}
 use Rattle.boundary.specs.World.{Lent, memoriesIn, Terms, World, Ended, endedOf}
-use Rattle.boundary.specs.Boundary.{recordTaken, due, recordsOf, fedWorld, sendsOf, sentState, sentWorld, enteredWorld, waitedState, waitedWorld}
+use Rattle.boundary.specs.Boundary.{recordTaken, due, recordsOf, fedWorld, sendsOf, sentState, sentWorld, lacksRow, enteredWorld, waitedState, waitedWorld}
 use Rattle.boundary.specs.Boundary.{executedOf, onPending, actOf, sendOf, boundaryOf, runOf}
 use Rattle.boundary.specs.Start.{startWorld, ranOf}
 use Rattle.laws.proofs.Bools.{and-true, and-false}
@@ -28,7 +29,7 @@ use Rattle.laws.proofs.Conds.{cases}
 use Rattle.boundary.proofs.Feeding.{records-more, records-done, records-keep}
 use Rattle.boundary.proofs.Runs.{run-falls}
 use Rattle.boundary_theorems.specs.Trace.{Taken, entry, waitingCycle, instruction, isEntry, isInstruction, stepBy, takenBy}
-use Rattle.boundary_theorems.specs.Trace.{TraceMark, markOf, markIf, marksAt, traceOf, waits, stretchesOf, entriesOf, instructionsOf}
+use Rattle.boundary_theorems.specs.Trace.{TraceMark, markOf, ifGoing, marksAt, traceOf, waits, stretchesOf, entriesOf, instructionsOf}
 use Rattle.boundary_theorems.proofs.Stretches.{leaps-none, lastWaits, last-snoc, opens, leaps-snoc}
 
 -- the counts of a state are those of the marks so far
@@ -68,9 +69,9 @@ module _ (ms : List TraceMark) (a b : Bool) (w : World) (h : Follows ms (not a &
   after : (t : Taken) (s : State) → Counted (ms ++ mark t ∷ []) s → s .inside ≡ waits (mark t) → Follows (ms ++ mark t ∷ []) true s
   after t s c i = record { counted = c; inside = i ∙ sym (and-true _ ∙ last-snoc ms (mark t)) }
 
-  act-marked : Marked ms (mark (takenBy (w .state .machine))) (actOf w)
+  act-marked : (watch : Watch) → Marked ms (mark (takenBy (w .state .machine))) (actOf watch w)
   unfolding actOf enteredWorld waitedState
-  act-marked = by (pendingOf (w .state .machine))
+  act-marked watch = by (pendingOf (w .state .machine))
     where
       counted : (t : Taken) (s : State)
           → s .leaps .0 ≡ w .state .leaps .0 + opens ms (mark t)
@@ -90,8 +91,9 @@ module _ (ms : List TraceMark) (a b : Bool) (w : World) (h : Follows ms (not a &
       goes true = counted waitingCycle _ (ap (λ (i : Bool). w .state .leaps .0 + cond i 0 1) (h .inside)) refl refl refl
       goes false = looked (lookOf (memoriesIn (w .lent)) (w .state .machine))
 
-      by : (p : Pending) → Marked ms (mark (stepBy p (idles (w .state .machine .chip .registers)))) (onPending p w)
-      by (Due cause) = counted entry _ refl refl refl refl
+      by : (p : Pending) → Marked ms (mark (stepBy p (idles (w .state .machine .chip .registers)))) (onPending watch p w)
+      by (Due cause) =
+          cases (Marked ms (mark entry)) (lacksRow watch (w .state) (w .lent .log)) (λ _. h .counted) (λ _. counted entry _ refl refl refl refl)
       by Nothing = goes (idles (w .state .machine .chip .registers))
 
 -- step 2 keeps the counts, and tells by `inside` whether there was a record
@@ -152,19 +154,21 @@ module _ (t : Terms) where
       mark : Bool → TraceMark
       mark b = record { applied = d; sent = b; taken = takenBy (cond b (sentState (r .state)) (r .state) .machine) }
 
-      by : (b : Bool) → Marked ms (mark b) (cond b (cond full (done (endedOf Full r)) (actOf (sentWorld r))) (actOf r))
+      by : (b : Bool) → Marked ms (mark b) (cond b (cond full (done (endedOf Full r)) (actOf (t .watch) (sentWorld r))) (actOf (t .watch) r))
       by true =
           cases (Marked ms (mark true)) full
           (λ _. c)
           (λ _. act-marked ms d true (sentWorld r)
-          (record { counted = record { leaps = c .leaps; entries = c .entries; instructions = c .instructions }; inside = never (lastWaits ms) d }))
+          (record { counted = record { leaps = c .leaps; entries = c .entries; instructions = c .instructions }; inside = never (lastWaits ms) d })
+          (t .watch))
       by false =
           act-marked ms d false r
           (record { counted = c; inside = records-inside (t .session) w ∙ ap (λ (i : Bool). i && not d) (h .inside) ∙ rests (lastWaits ms) d })
+          (t .watch)
 
   -- with no mark at the last
   marked : (ms : List TraceMark) (m : TraceMark) (x : Turn World Ended) → Marked ms m x
-      → Then (λ v. Follows (ms ++ markIf x m) true (v .state)) (λ e. Counted (ms ++ markIf x m) (e .world .state)) x
+      → let l = ms ++ ifGoing x (m ∷ []) in Then (λ v. Follows l true (v .state)) (λ e. Counted l (e .world .state)) x
   marked ms m (more v) h = h
   marked ms m (done e) h = subst (λ (l : List TraceMark). Counted l (e .world .state)) (sym (append-nil ms)) h
 

@@ -11,6 +11,7 @@ use Rattle.machine.specs.declared.Machine.{Machine}
 use Rattle.machine.specs.declared.Pending.{Pending}
 use Rattle.machine.specs.declared.Pending.the-variants.{Nothing, Due}
 use Rattle.machine.specs.Interrupts.{pendingOf}
+use Rattle.boundary.specs.declared.State.{State}
 use Rattle.boundary.specs.World.{Terms, World, Ended}
 use Rattle.boundary.specs.Boundary.{due, fedWorld, sendsOf, sentState, boundaryOf, cyclesLeft}
 
@@ -33,22 +34,26 @@ pub record TraceMark : Type 0 where
   pub sent : Bool
   pub taken : Taken
 
+-- the state at its step 4: the records due are applied, and a byte is sent where one is to be sent
+abbrev pub readyState : List ℕ → World → State
+readyState session w = let s = fedWorld session w .state in cond (sendsOf s) (sentState s) s
+
 unfoldable pub markOf : List ℕ → World → TraceMark
 markOf session w =
-    let s = fedWorld session w .state in
     record {
       applied = due session (w .state);
-      sent = sendsOf s;
-      taken = takenBy (cond (sendsOf s) (sentState s) s .machine);
+      sent = sendsOf (fedWorld session w .state);
+      taken = takenBy (readyState session w .machine);
     }
 
--- The marks of a run, one for each boundary that goes on.
-abbrev pub markIf : Turn World Ended → TraceMark → List TraceMark
-markIf (more v) mark = mark ∷ []
-markIf (done e) mark = []
+-- what is told of boundaries that go on alone
+abbrev pub ifGoing : {A : Type 0} → Turn World Ended → List A → List A
+ifGoing (more v) rows = rows
+ifGoing (done e) rows = []
 
+-- The marks of a run, one for each boundary that goes on.
 abbrev pub marksAt : Terms → World → List TraceMark
-marksAt t w = markIf (boundaryOf t w) (markOf (t .session) w)
+marksAt t w = ifGoing (boundaryOf t w) (markOf (t .session) w ∷ [])
 
 unfoldable pub traceOf : Terms → World → List TraceMark
 traceOf t w = rowsOf (boundaryOf t) (cyclesLeft t) (marksAt t) w

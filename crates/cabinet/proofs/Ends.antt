@@ -135,21 +135,22 @@ module _ (asked : Terms) (m : Machine) (given : Lent) where
       → P (endOf asked m given .world)
   left-cases P s r = end-cases (λ x. P (x .world)) (λ l. s) (λ l f. s) (λ l f h. s) (λ a f e. s) (λ a e. r e)
 
--- 01's replies to a run are 0 to 9
-fault-most : (f : Fault) → faultNumber f ≤ 9
+-- the replies to a run are at most 11
+fault-most : (f : Fault) → faultNumber f ≤ 11
 fault-most (fault.Length k) = omega arith
 fault-most (fault.Kind k) = omega arith
 fault-most (fault.Value k) = omega arith
 fault-most (fault.Time k) = omega arith
 
-stop-most : (s : Stop) → stopNumber s ≤ 9
+stop-most : (s : Stop) → stopNumber s ≤ 11
 stop-most stop.Limit = omega arith
 stop-most stop.Undefined = omega arith
 stop-most stop.Full = omega arith
+stop-most stop.LogFull = omega arith
 
-pub reply-most : (asked : Terms) (m : Machine) (given : Lent) → answerOf asked m given .reply .number ≤ 9
+pub reply-most : (asked : Terms) (m : Machine) (given : Lent) → answerOf asked m given .reply .number ≤ 11
 reply-most asked m given =
-    end-cases asked m given (λ x. x .reply .number ≤ 9)
+    end-cases asked m given (λ x. x .reply .number ≤ 11)
     (λ l. omega arith)
     (λ l r. omega arith)
     (λ l r h. omega arith)

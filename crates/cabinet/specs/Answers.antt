@@ -24,7 +24,7 @@ refusalOf t m l =
     (cond (ltb 1000000000 (t .limit)) (some (told 3 none))
     (toldCheck (checkOf (t .session)))))
 
--- what a run stops with: 0, 8 or 9
+-- what a run stops with: 0, 8, 9 or 11
 abbrev pub toldStop : Stop → Told
 toldStop s = told (stopNumber s) none
 
@@ -44,7 +44,7 @@ onRefusal none start e = endAt (toldStop (e .stop)) (e .world)
 unfoldable pub endOf : Terms → Machine → Lent → End
 endOf t m l = onRefusal (refusalOf t m l) (startWorld m l) (ranOf t m l)
 
--- what both runs answer: "the reply, the machine, all counts and every byte of image and output"
+-- what both runs answer: "the reply, the machine, all counts and every byte of image and output", and of 02's log
 pub record Answer : Type 0 where
   pub reply : Told
   pub machine : Machine

@@ -1,6 +1,7 @@
-// The public calls: power-on, the two runs, the question about one opcode, and the filled part of a lent output.
+// The public calls: power-on, the two runs, plain and watched, the question about one opcode, and the filled part of a lent buffer.
 use boundary::State;
 use boundary::Stop;
+use boundary::Watch;
 use counts::Cycles;
 use counts::Entries;
 use counts::Instructions;
@@ -13,13 +14,13 @@ use opcodes::Decoded;
 use replies::Reply;
 use session::Checked;
 ghost use mathlib.Core.Path.{_≡_};
-ghost use mathlib.Core.List.{List};
-ghost use Prim.Native.Nat.{ℕ};
 ghost use lib.ListN.{take};
 ghost use Rattle.asking.specs.Asking.{toldDecoded, opcodeAnswer};
 ghost use Rattle.power.specs.Power.{toldPower, powerAnswer};
 ghost use Rattle.replies.specs.Replies.{toldReply, toldCheck};
-ghost use Rattle.boundary.specs.World.{lent, terms};
+ghost use Rattle.bus.specs.Access.{memories};
+ghost use Rattle.boundary.specs.declared.Watch.{Watch};
+ghost use Rattle.boundary.specs.World.{Lent, lent, lending, withMemories, terms, watching};
 ghost use Rattle.boundary.specs.Start.{startOf};
 ghost use Rattle.cabinet.specs.Answers.{refusalOf, toldAdmission, toldStop, endedWith, endOf};
 ghost use Rattle.cabinet.specs.Answers.{reportOf, answered, answerOf, leapsOf};
@@ -81,7 +82,8 @@ fn verdict(c: Checked) -> Admission
 
 // The tests of 1, 2 and 3, then the session from the front.
 fn admit(image: &[u8], m: Machine, session: &[u8], n: u32) -> Admission
-    ensures { λ r. ⌜ ((o : List ℕ) → toldAdmission r ≡ refusalOf (terms (now (session .entry)) n) m (lent (now (image .entry)) o)) ⌝ }
+    ensures { λ r. ⌜ ((watch : Watch) (l : Lent) → toldAdmission r
+        ≡ refusalOf (watching (now (session .entry)) n watch) m (withMemories l (memories (now (image .entry))))) ⌝ }
 {
     let wrong_machine = !m.in_ranges();
     let wrong_limit = n > 1000000000;
@@ -105,6 +107,7 @@ fn stopped(s: Stop) -> Reply
         Stop::Limit => Reply::Limit,
         Stop::Undefined => Reply::Undefined,
         Stop::Full => Reply::Full,
+        Stop::LogFull => Reply::LogFull,
     }
 }
 
@@ -115,10 +118,12 @@ fn end(
     m: Machine,
     session: &[u8],
     n: u32,
+    watch: Watch,
     output: &mut [u8],
+    log: &mut [u8],
 ) -> Ending
-    ensures { λ r. ⌜ endedWith r (lent (now (image .exit)) (now (output .exit)))
-        ≡ endOf (terms (now (session .entry)) n) m (lent (now (image .entry)) (now (output .entry))) ⌝ }
+    ensures { λ r. ⌜ endedWith r (lending (now (image .exit)) (now (output .exit)) (now (log .exit)))
+        ≡ endOf (watching (now (session .entry)) n watch) m (lending (now (image .entry)) (now (output .entry)) (now (log .entry))) ⌝ }
 {
     let start = start(m);
     let admission = admit(&image[..], m, session, n);
@@ -128,7 +133,7 @@ fn end(
             state: start,
         },
         Admission::Admitted => {
-            let outcome = run::run(leaping, session, n, image, output, start);
+            let outcome = run::run(leaping, session, n, watch, image, output, log, start);
             let stop = outcome.stop;
             let state = outcome.state;
             Ending {
@@ -170,8 +175,67 @@ pub fn power_on(image: &[u8], r: u32) -> Power
     power::power_on(image, r)
 }
 
-// Either run, leaping or single: the same answer, and how many leaps there were or would have been.
-pub fn run_either(
+// Either run, leaping or single, watched: the same answer, and how many leaps there were or would have been.
+pub fn watch_either(
+    leaping: bool,
+    image: &mut [u8],
+    m: Machine,
+    session: &[u8],
+    n: u32,
+    watch: Watch,
+    output: &mut [u8],
+    log: &mut [u8],
+) -> Leapt
+    ensures { λ r. ⌜ (answered (r .ran) (lending (now (image .exit)) (now (output .exit)) (now (log .exit)))
+        ≡ answerOf (watching (now (session .entry)) n watch) m (lending (now (image .entry)) (now (output .entry)) (now (log .entry))))
+        × (r .leaps .0
+        ≡ leapsOf (watching (now (session .entry)) n watch) m (lending (now (image .entry)) (now (output .entry)) (now (log .entry)))) ⌝ }
+{
+    let e = end(leaping, image, m, session, n, watch, output, log);
+    let leaps = e.state.leaps.0;
+    Leapt {
+        ran: e.report(),
+        leaps: Leaps(leaps),
+    }
+}
+
+// The single run, watched: 11 where the log has no room for a row.
+pub fn watch_single(
+    image: &mut [u8],
+    m: Machine,
+    session: &[u8],
+    n: u32,
+    watch: Watch,
+    output: &mut [u8],
+    log: &mut [u8],
+) -> Ran
+    ensures { λ r. ⌜ answered r (lending (now (image .exit)) (now (output .exit)) (now (log .exit)))
+        ≡ answerOf (watching (now (session .entry)) n watch) m (lending (now (image .entry)) (now (output .entry)) (now (log .entry))) ⌝ }
+{
+    let leapt = watch_either(false, image, m, session, n, watch, output, log);
+    leapt.ran
+}
+
+// The leaping run, watched: the same answer, and how many leaps there were.
+pub fn watch_leaping(
+    image: &mut [u8],
+    m: Machine,
+    session: &[u8],
+    n: u32,
+    watch: Watch,
+    output: &mut [u8],
+    log: &mut [u8],
+) -> Leapt
+    ensures { λ r. ⌜ (answered (r .ran) (lending (now (image .exit)) (now (output .exit)) (now (log .exit)))
+        ≡ answerOf (watching (now (session .entry)) n watch) m (lending (now (image .entry)) (now (output .entry)) (now (log .entry))))
+        × (r .leaps .0
+        ≡ leapsOf (watching (now (session .entry)) n watch) m (lending (now (image .entry)) (now (output .entry)) (now (log .entry)))) ⌝ }
+{
+    watch_either(true, image, m, session, n, watch, output, log)
+}
+
+// Either run with nothing watched.
+fn run_either(
     leaping: bool,
     image: &mut [u8],
     m: Machine,
@@ -183,12 +247,17 @@ pub fn run_either(
         ≡ answerOf (terms (now (session .entry)) n) m (lent (now (image .entry)) (now (output .entry))))
         × (r .leaps .0 ≡ leapsOf (terms (now (session .entry)) n) m (lent (now (image .entry)) (now (output .entry)))) ⌝ }
 {
-    let e = end(leaping, image, m, session, n, output);
-    let leaps = e.state.leaps.0;
-    Leapt {
-        ran: e.report(),
-        leaps: Leaps(leaps),
-    }
+    let mut none = [0u8; 1];
+    watch_either(
+        leaping,
+        image,
+        m,
+        session,
+        n,
+        Watch::nothing(),
+        output,
+        &mut none[..0],
+    )
 }
 
 // The single run: each waiting cycle is a boundary of its own.
@@ -216,7 +285,7 @@ pub fn ask(opcode: u8) -> Decoded
     asking::ask(opcode)
 }
 
-// The filled part of an output: its first `sent` bytes, or all of it where there are no more.
+// The filled part of an output, its first `sent` bytes, or of a log, its first 8 bytes an entry; or all of it where there are no more.
 pub fn filled(output: &[u8], sent: usize) -> &[u8]
     ensures { λ r. ⌜ now r ≡ take sent (now (output .entry)) ⌝ }
 {

@@ -1,11 +1,11 @@
--- 01's table of replies, row by row: each reply of a public run is given exactly when the table says. Assumes nothing.
+-- 01's table of replies, row by row, and 02's 11: each reply of a public run is given exactly when the table says. Assumes nothing.
 use Prim.Native.Nat.{ℕ, _-_, _≤_, _<_}
 use native.Mathlib.Omega.{arith}
 use mathlib.Core.Path.{_≡_, refl, sym, ap, subst, _∙_}
 use mathlib.Core.Bool.{Bool, true, false, true≢false}
-use mathlib.Core.List.{List, [], _∷_}
+use mathlib.Core.List.{[], _∷_}
 use mathlib.Core.Logic.{_↔_}
-use mathlib.Core.Option.{none, some, Option·getD}
+use mathlib.Core.Option.{none, some}
 use lib.ListN.{length, getD}
 use Rattle.session.specs.Session.{checkOf, faultNumber}
 use Rattle.session.specs.declared.Fault.{Fault}
@@ -16,7 +16,7 @@ use Rattle.machine.specs.declared.Machine.{Machine}
 use Rattle.machine.specs.Machine.{Ranges, rangesOf}
 use Rattle.machine.proofs.Ranges.{ranges-say, say-ranges}
 use Rattle.boundary.specs.declared.Stop.{Stop}
-use Rattle.boundary.specs.declared.Stop.the-variants.{Limit, Undefined, Full}
+use Rattle.boundary.specs.declared.Stop.the-variants.{Limit, Undefined, Full, LogFull}
 use Rattle.boundary.specs.World.{Lent, Terms, stopNumber}
 use Rattle.boundary.specs.Start.{startWorld, ranOf}
 use Rattle.laws.proofs.Known.{known}
@@ -27,7 +27,7 @@ use Rattle.cabinet.proofs.Ends.{Passed, refuses-1, refuses-2, refuses-3, sessio
 use Rattle.cabinet_theorems.proofs.Stops.{Shows, shown-once, stop-shows}
 
 -- the number of a refusal by the session is 4 to 7, that of a stop is not 1 to 7
-fault-number : (f : Fault) → (4 ≤ faultNumber f) × (faultNumber f ≤ 7)
+pub fault-number : (f : Fault) → (4 ≤ faultNumber f) × (faultNumber f ≤ 7)
 fault-number (Length k) = (omega arith, omega arith)
 fault-number (Kind k) = (omega arith, omega arith)
 fault-number (Value k) = (omega arith, omega arith)
@@ -37,22 +37,24 @@ pub stop-number : {R : Type 0} (s : Stop) {j : ℕ} → stopNumber s ≡ j → 1
 stop-number Limit e l h = absurd (let z : ⊥ = omega arith in z)
 stop-number Undefined e l h = absurd (let z : ⊥ = omega arith in z)
 stop-number Full e l h = absurd (let z : ⊥ = omega arith in z)
+stop-number LogFull e l h = absurd (let z : ⊥ = omega arith in z)
 
 -- the number of a told reply
-number : {t u : Told} → t ≡ u → t .number ≡ u .number
+pub number : {t u : Told} → t ≡ u → t .number ≡ u .number
 number e = ap (λ (t : Told). t .number) e
 
--- a stop is known by what it tells
+-- a stop is known by what it tells; 10 is none
 abbrev stopBack : Told → Stop
-stopBack t = getD (Limit ∷ Undefined ∷ Full ∷ []) (t .number - 7) Limit
+stopBack t = getD (Limit ∷ Undefined ∷ Full ∷ Limit ∷ LogFull ∷ []) (t .number - 7) Limit
 
-stop-known : (a b : Stop) → toldStop a ≡ toldStop b → a ≡ b
+pub stop-known : (a b : Stop) → toldStop a ≡ toldStop b → a ≡ b
 stop-known = known toldStop stopBack back
   where
     back : (a : Stop) → stopBack (toldStop a) ≡ a
     back Limit = refl
     back Undefined = refl
     back Full = refl
+    back LogFull = refl
 
 -- the test of the ranges fails exactly where the machine is outside them
 outside : (m : Machine) → (rangesOf m ≡ false) ↔ (Ranges (m .chip .bus) → ⊥)
@@ -163,32 +165,36 @@ module _ (asked : Terms) (m : Machine) (given : Lent) where
       (session-decides asked m given (p .image-long) (say-ranges (m .chip .bus) (p .in-ranges)) (p .within) ∙ ap toldCheck (h .1))
       (ranOf asked m given) refl
 
-  stopped-by : (k : Stop) → Replies (toldStop k) ↔ (Admitted × Shows (asked .limit) k (answerOf asked m given))
+  stopped-by : (k : Stop) → Replies (toldStop k) ↔ (Admitted × Shows asked k (answerOf asked m given))
   stopped-by k =
       let e = ranOf asked m given in
       let shows = stop-shows asked (startWorld m given) in (
         (λ d.
-            end-cases asked m given (λ x. x .reply ≡ toldStop k → Admitted × Shows (asked .limit) k (answerAt x))
+            end-cases asked m given (λ x. x .reply ≡ toldStop k → Admitted × Shows asked k (answerAt x))
             (λ l d. stop-number k (sym (number d)) (omega arith) (omega arith))
             (λ l r d. stop-number k (sym (number d)) (omega arith) (omega arith))
             (λ l r h d. stop-number k (sym (number d)) (omega arith) (omega arith))
             (λ p f e d. let b = fault-number f in stop-number k (sym (number d)) (let l = b .0 in omega arith) (b .1))
-            (λ p f d. ((p, f), subst (λ (s : Stop). Shows (asked .limit) s (answerAt (endAt (toldStop (e .stop)) (e .world)))) (stop-known (e .stop) k d) shows))
+            (λ p f d. ((p, f), subst (λ (s : Stop). Shows asked s (answerAt (endAt (toldStop (e .stop)) (e .world)))) (stop-known (e .stop) k d) shows))
             d),
         (λ h.
             let q = admitted-end (h .0) in
-            let s = subst (λ (x : End). Shows (asked .limit) k (answerAt x)) q (h .1) in
-            ap (λ (x : End). x .reply) q ∙ ap toldStop (shown-once (asked .limit) (e .stop) k (answerAt (endAt (toldStop (e .stop)) (e .world))) shows s)),
+            let s = subst (λ (x : End). Shows asked k (answerAt x)) q (h .1) in
+            ap (λ (x : End). x .reply) q ∙ ap toldStop (shown-once asked (answerAt (endAt (toldStop (e .stop)) (e .world))) (e .stop) k shows s)),
       )
 
   -- 0: "the cycle limit N is reached"
-  pub reply-0 : Replies (told 0 none) ↔ (Admitted × Shows (asked .limit) Limit (answerOf asked m given))
+  pub reply-0 : Replies (told 0 none) ↔ (Admitted × Shows asked Limit (answerOf asked m given))
   reply-0 = stopped-by Limit
 
   -- 8: "the opcode to be executed is undefined"
-  pub reply-8 : Replies (told 8 none) ↔ (Admitted × Shows (asked .limit) Undefined (answerOf asked m given))
+  pub reply-8 : Replies (told 8 none) ↔ (Admitted × Shows asked Undefined (answerOf asked m given))
   reply-8 = stopped-by Undefined
 
   -- 9: "a byte is to be sent and the output has no room"
-  pub reply-9 : Replies (told 9 none) ↔ (Admitted × Shows (asked .limit) Full (answerOf asked m given))
+  pub reply-9 : Replies (told 9 none) ↔ (Admitted × Shows asked Full (answerOf asked m given))
   reply-9 = stopped-by Full
+
+  -- 11: "no room for a log row"
+  pub reply-11 : Replies (told 11 none) ↔ (Admitted × Shows asked LogFull (answerOf asked m given))
+  reply-11 = stopped-by LogFull

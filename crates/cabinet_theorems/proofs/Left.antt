@@ -30,7 +30,7 @@ module _ (asked : Terms) (m : Machine) (given : Lent) where
   untouched t =
       record { reply = t; machine = m; cycles = 0; instructions = 0; entries = 0; used = 0; sent = 0; lent = given }
 
-  -- "Replies 1 to 7 have all counts zero", and leave "image, output, machine unchanged"
+  -- "Replies 1 to 7 have all counts zero", and leave "image, output, machine unchanged", and the log
   pub refused-untouched : let a = answerOf asked m given in 1 ≤ a .reply .number → a .reply .number ≤ 7
       → (a ≡ untouched (a .reply)) × (leapsOf asked m given ≡ 0)
   refused-untouched =

@@ -1,6 +1,9 @@
--- Step 4 of a boundary: which causes hold, and the first in 01's order.
+-- Step 4 of a boundary: which causes hold, the first in 01's order, and the others that hold behind it.
+use Prim.Native.Nat.{ℕ}
 use mathlib.Core.Bool.{Bool, false, not, cond, _&&_}
 use mathlib.Core.List.{List, [], _∷_}
+use lib.Dec.{eqb}
+use Rattle.bits.specs.Bits.{byteOf}
 use Rattle.tables.specs.declared.Vector.{Vector}
 use Rattle.tables.specs.declared.Vector.the-variants as vectors
 use Rattle.serial.specs.Serial.{serialRequest}
@@ -47,3 +50,22 @@ nmiAfter Icf nmi = nmi
 nmiAfter Ocf nmi = nmi
 nmiAfter Tof nmi = nmi
 nmiAfter Serial nmi = nmi
+
+-- 02's wake log names a cause by its number: 0 NMI, 1 IRQ1, 2 ICF, 3 OCF, 4 TOF, 5 serial
+abbrev pub causeNumber : Cause → ℕ
+causeNumber Nmi = 0
+causeNumber Irq1 = 1
+causeNumber Icf = 2
+causeNumber Ocf = 3
+causeNumber Tof = 4
+causeNumber Serial = 5
+
+-- "those listed behind it are all the others that held"
+abbrev pub holdsBehind : Cause → Cause → Machine → Bool
+holdsBehind cause other m = holds other m && not (eqb (causeNumber cause) (causeNumber other))
+
+-- .. as a mask, bit k for cause k
+abbrev pub behindOf : Cause → Machine → ℕ
+behindOf cause m =
+    byteOf (holdsBehind cause Nmi m) (holdsBehind cause Irq1 m) (holdsBehind cause Icf m)
+    (holdsBehind cause Ocf m) (holdsBehind cause Tof m) (holdsBehind cause Serial m) false false

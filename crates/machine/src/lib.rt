@@ -16,7 +16,7 @@ ghost use Prim.Native.Nat.{ℕ};
 ghost use Rattle.bus.specs.Access.{memories, readOf};
 ghost use Rattle.bus.specs.Units.{byteSent};
 ghost use Rattle.machine.specs.Machine.{rangesOf, passedOf, resetRegisters, resetOf, cold, powerOnOf};
-ghost use Rattle.machine.specs.Interrupts.{pendingOf, vectorFor, nmiAfter};
+ghost use Rattle.machine.specs.Interrupts.{pendingOf, vectorFor, nmiAfter, causeNumber, behindOf};
 ghost use Rattle.machine.specs.Events.{appliedOf, onBus};
 ghost use Rattle.machine.specs.Steps.{moved, entryCycles, enteredOf, lookOf, stepOf};
 
@@ -159,6 +159,20 @@ fn nmi_after(cause: Cause, nmi: bool) -> bool
     }
 }
 
+// A cause's number in a row of the wake log.
+pub fn cause_number(cause: Cause) -> u8
+    ensures { λ r. ⌜ r ≡ causeNumber cause ⌝ }
+{
+    match cause {
+        Cause::Nmi => 0,
+        Cause::Irq1 => 1,
+        Cause::Icf => 2,
+        Cause::Ocf => 3,
+        Cause::Tof => 4,
+        Cause::Serial => 5,
+    }
+}
+
 impl Machine {
     pub fn in_ranges(self) -> bool
         ensures { λ r. ⌜ r ≡ rangesOf self ⌝ }
@@ -237,6 +251,25 @@ impl Machine {
             return Pending::Due(Cause::Serial);
         }
         Pending::Nothing
+    }
+
+    // All other causes that hold, bit k for cause k.
+    pub fn behind(self, cause: Cause) -> u8
+        ensures { λ r. ⌜ r ≡ behindOf cause self ⌝ }
+    {
+        let own = cause_number(cause);
+        let open = !self.chip.registers.codes.i;
+        let t = self.chip.bus.timer;
+        bits::byte_of(
+            self.nmi & (own != 0),
+            open & !self.irq1 & (own != 1),
+            open & (t.icf.set & t.eici) & (own != 2),
+            open & (t.ocf.set & t.eoci) & (own != 3),
+            open & (t.tof.set & t.etoi) & (own != 4),
+            open & self.chip.bus.serial.requests() & (own != 5),
+            false,
+            false,
+        )
     }
 
     // A session's event.

@@ -1,4 +1,4 @@
--- 01's number and record tell every reply apart, and every fault: two that tell the same are one. Assumes nothing.
+-- Number and record tell every reply apart, and every fault: two that tell the same are one. Assumes nothing.
 use Prim.Native.Nat.{ℕ, _-_}
 use mathlib.Core.Path.{_≡_, refl}
 use mathlib.Core.List.{[], _∷_}
@@ -8,12 +8,13 @@ use Rattle.laws.proofs.Known.{known}
 use Rattle.session.specs.declared.Fault.{Fault}
 use Rattle.session.specs.declared.Fault.the-variants as fault
 use Rattle.replies.specs.declared.Reply.{Reply}
-use Rattle.replies.specs.declared.Reply.the-variants.{Limit, WrongImage, WrongMachine, WrongLimit, Length, Kind, Value, Time, Undefined, Full}
+use Rattle.replies.specs.declared.Reply.the-variants.{Limit, WrongImage, WrongMachine, WrongLimit, Length, Kind, Value, Time, Undefined, Full, LogFull}
 use Rattle.replies.specs.Replies.{Told, toldReply, toldFault}
 
+-- no reply to a run has the number 10
 abbrev replyBy : ℕ → ℕ → Reply
 replyBy number k =
-    getD (Limit ∷ WrongImage ∷ WrongMachine ∷ WrongLimit ∷ Length k ∷ Kind k ∷ Value k ∷ Time k ∷ Undefined ∷ Full ∷ []) number Limit
+    getD (Limit ∷ WrongImage ∷ WrongMachine ∷ WrongLimit ∷ Length k ∷ Kind k ∷ Value k ∷ Time k ∷ Undefined ∷ Full ∷ Limit ∷ LogFull ∷ []) number Limit
 
 abbrev replyBack : Told → Reply
 replyBack t = replyBy (t .number) (Option·getD (t .named) 0)
@@ -32,6 +33,7 @@ reply-known = known toldReply replyBack back
     back (Time k) = refl
     back Undefined = refl
     back Full = refl
+    back LogFull = refl
 
 -- the fault that a reply of 4 to 7 tells
 abbrev pub faultBack : Told → Fault

@@ -1,4 +1,4 @@
--- 01's table of replies: the number of each, the record that it names, and whether a run stops with it.
+-- 01's table of replies, and 02's further ones: the number of each, the record that it names, and whether a run stops with it.
 use Prim.Native.Nat.{ℕ}
 use mathlib.Core.Bool.{Bool, _||_}
 use mathlib.Core.Option.{Option, none, some}
@@ -8,7 +8,7 @@ use Rattle.session.specs.declared.Fault.{Fault}
 use Rattle.session.specs.declared.Checked.{Checked}
 use Rattle.session.specs.declared.Checked.the-variants.{Sound, Bad}
 use Rattle.replies.specs.declared.Reply.{Reply}
-use Rattle.replies.specs.declared.Reply.the-variants.{Limit, WrongImage, WrongMachine, WrongLimit, Length, Kind, Value, Time, Undefined, Full}
+use Rattle.replies.specs.declared.Reply.the-variants.{Limit, WrongImage, WrongMachine, WrongLimit, Length, Kind, Value, Time, Undefined, Full, LogFull}
 
 -- a reply: its number, and "4 to 7 name the record, counted from 0"
 pub record Told : Type 0 where
@@ -29,6 +29,7 @@ toldReply (Value k) = told 6 (some k)
 toldReply (Time k) = told 7 (some k)
 toldReply Undefined = told 8 none
 toldReply Full = told 9 none
+toldReply LogFull = told 11 none
 
 -- a session's fault, and its check: 4 to 7, or no refusal
 abbrev pub toldFault : Fault → Told
@@ -40,4 +41,4 @@ toldCheck (Bad f) = some (toldFault f)
 
 -- the replies that a run stops with
 abbrev pub stops : ℕ → Bool
-stops reply = eqb reply 0 || eqb reply 8 || eqb reply 9
+stops reply = eqb reply 0 || eqb reply 8 || eqb reply 9 || eqb reply 11

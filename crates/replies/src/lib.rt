@@ -1,10 +1,10 @@
-// 01's replies to a run: each with its number, the record that it names, and whether the run stopped or was refused.
+// The replies to a run: each with its number, the record that it names, and whether the run stopped or was refused.
 use session::Fault;
 ghost use mathlib.Core.Path.{_≡_};
 ghost use mathlib.Core.Option.{Option·getD};
 ghost use Rattle.replies.specs.Replies.{toldReply, toldFault, stops};
 
-// 01's replies 0 to 9, in order; 4 to 7 name the record, counted from 0.
+// 01's replies 0 to 9, in order, and 02's 11; 4 to 7 name the record, counted from 0.
 pub enum Reply {
     Limit,
     WrongImage,
@@ -16,10 +16,11 @@ pub enum Reply {
     Time(usize),
     Undefined,
     Full,
+    LogFull,
 }
 
 impl Reply {
-    // 01's number.
+    // Its number.
     pub fn number(self) -> u8
         ensures { λ r. ⌜ r ≡ toldReply self .number ⌝ }
     {
@@ -34,6 +35,7 @@ impl Reply {
             Reply::Time(_) => 7,
             Reply::Undefined => 8,
             Reply::Full => 9,
+            Reply::LogFull => 11,
         }
     }
 
@@ -52,6 +54,7 @@ impl Reply {
             Reply::Time(k) => k,
             Reply::Undefined => 0,
             Reply::Full => 0,
+            Reply::LogFull => 0,
         }
     }
 
@@ -60,7 +63,7 @@ impl Reply {
         ensures { λ r. ⌜ r ≡ stops (toldReply self .number) ⌝ }
     {
         let number = self.number();
-        (number == 0) | (number == 8) | (number == 9)
+        (number == 0) | (number == 8) | (number == 9) | (number == 11)
     }
 }
 

@@ -63,7 +63,7 @@ strode-more s c d j i k =
 
 module _ (t : Terms) (s : State) where
   -- as long as nothing stirs, a boundary is the next instruction
-  pub stride-turn : (c d : Registers) (j i k : ℕ) (memory after : Memories) (l : Lent) → s .cycles .0 + j < t .limit → stirs t s j ≡ false
+  pub stride-turn : (c d : Registers) (j i k : ℕ) (memory after : Memories) (l : Lent) → s .cycles .0 + j < t .limit → stirs (t .session) s j ≡ false
       → idles c ≡ false → c .codes .i ≡ s .machine .chip .registers .codes .i
       → Steps memory (strodeOf s c j i .machine) k (out d (passed j (s .machine .chip .bus)) after)
       → boundaryOf t (worldOf (strodeOf s c j i) (withMemories l memory)) ≡ more (worldOf (strodeOf s d (j + k) (i + 1)) (withMemories l after))
@@ -74,9 +74,9 @@ module _ (t : Terms) (s : State) where
       let q = neither _ _ still in
       let p = neither _ _ (q .0) in
       below-limit r here t b
-      ∙ ap (λ (x : State). sendOf (worldOf x here)) (records-done (t .session) (memoriesIn here) r (p .0))
-      ∙ send-rests r here (p .1)
-      ∙ act-steps r here (not-due _ (alike-due j (s .machine) c masked ∙ q .1)) awake
+      ∙ ap (λ (x : State). sendOf (t .watch) (worldOf x here)) (records-done (t .session) (memoriesIn here) r (p .0))
+      ∙ send-rests r here (t .watch) (p .1)
+      ∙ act-steps r here (t .watch) (not-due _ (alike-due j (s .machine) c masked ∙ q .1)) awake
       ∙ ap (λ (z : Look). executedOf z (worldOf r here)) (e .stands)
       ∙ ap (λ (z : Stepped). more (steppedWorld z (worldOf r here))) (e .steps)
       ∙ ap (λ (x : State). more (worldOf x (withMemories l after))) (strode-more s c d j i k)
@@ -98,7 +98,7 @@ below-room room cycles a b on = leb-false room cycles (neither (leb room cycles)
 module _ (t : Terms) (s : State) where
   -- one turn of the stride
   pub strides : (room : ℕ) (c e : Registers) (j i k : ℕ) (start memory after : Memories) {idle : Bool}
-      → First (t .limit - s .cycles .0) room (stirs t s)
+      → First (t .limit - s .cycles .0) room (stirs (t .session) s)
       → idle ≡ idles c → ends room j idle (c .codes .i) (s .machine .chip .registers .codes .i) ≡ false
       → Hopped (s .machine .chip .bus .r) c memory k e after
       → Goes t s start (strodeOf s c j i) memory → Goes t s start (strodeOf s e (j + k) (i + 1)) after

@@ -132,7 +132,7 @@ still-suc s j = same s refl (omega arith) (omega arith) (omega arith) (omega ari
 
 module _ (t : Terms) (s : State) (ins : s .inside ≡ true) (wait : idles (s .machine .chip .registers) ≡ true) where
   -- as long as nothing stirs, the waiting cycles may be passed at once
-  pub leap-law : (k : ℕ) → First (t .limit - s .cycles .0) k (stirs t s) → (l : Lent) → runOf t (worldOf s l) ≡ runOf t (worldOf (still s k) l)
+  pub leap-law : (k : ℕ) → First (t .limit - s .cycles .0) k (stirs (t .session) s) → (l : Lent) → runOf t (worldOf s l) ≡ runOf t (worldOf (still s k) l)
   unfolding passed
   leap-law k h l =
       ap (λ (x : State). runOf t (worldOf x l)) (still-zero s ins)
@@ -142,13 +142,13 @@ module _ (t : Terms) (s : State) (ins : s .inside ≡ true) (wait : idles (s .ma
       let q = neither _ _ (h .before j b) in
       let p = neither _ _ (q .0) in
       below-limit (still s j) l t (omega arith)
-      ∙ ap (λ (x : State). sendOf (worldOf x l)) (records-done (t .session) (memoriesIn l) (still s j) (p .0))
-      ∙ send-rests (still s j) l (p .1)
-      ∙ act-waits (still s j) l (not-due _ (q .1)) wait
+      ∙ ap (λ (x : State). sendOf (t .watch) (worldOf x l)) (records-done (t .session) (memoriesIn l) (still s j) (p .0))
+      ∙ send-rests (still s j) l (t .watch) (p .1)
+      ∙ act-waits (still s j) l (t .watch) (not-due _ (q .1)) wait
       ∙ ap (λ (x : State). more (worldOf x l)) (still-suc s j))
 
   -- and there the leap ends
-  pub leap-ends : (k : ℕ) → First (t .limit - s .cycles .0) k (stirs t s) → endsLeap t (still s k) ≡ true
+  pub leap-ends : (k : ℕ) → First (t .limit - s .cycles .0) k (stirs (t .session) s) → endsLeap t (still s k) ≡ true
   unfolding passed
   leap-ends k h = by (h .there)
     where
@@ -160,7 +160,7 @@ module _ (t : Terms) (s : State) (ins : s .inside ≡ true) (wait : idles (s .ma
       first true b c d e = refl
       first false b c d e = absurd (false≢true e)
 
-      by : (k ≡ t .limit - s .cycles .0) ⊎ (stirs t s k ≡ true) → endsLeap t (still s k) ≡ true
+      by : (k ≡ t .limit - s .cycles .0) ⊎ (stirs (t .session) s k ≡ true) → endsLeap t (still s k) ≡ true
       by (inl e) = first _ _ _ _ (le-leb (t .limit) (s .cycles .0 + k) (omega arith))
       by (inr e) =
           last (leb (t .limit) (s .cycles .0 + k)) (dueAt (t .session) (s .cycles .0 + k) (s .place))
@@ -182,7 +182,7 @@ limit-ends t s h = by _ _ _ _ (le-leb (t .limit) (s .cycles .0) h)
     by false b c d e = absurd (false≢true e)
 
 pub leapt : (t : Terms) (s : State) (k : ℕ) {r : State} {m : Machine} → (s .inside && idles (s .machine .chip .registers)) ≡ true
-    → First (t .limit - s .cycles .0) k (stirs t s) → Fine s → m ≡ passedOf k (s .machine) → r ≡ grownTo s m (grown k 0 0 0) true
+    → First (t .limit - s .cycles .0) k (stirs (t .session) s) → Fine s → m ≡ passedOf k (s .machine) → r ≡ grownTo s m (grown k 0 0 0) true
     → AfterLeap t s r
 leapt t s k w h f p q =
     let e = both _ _ w in

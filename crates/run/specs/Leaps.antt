@@ -2,6 +2,7 @@
 -- the same.
 use Prim.Native.Nat.{ℕ, _+_, _≤_, _<_}
 use mathlib.Core.Bool.{Bool, true, false, _||_, _&&_}
+use mathlib.Core.List.{List}
 use mathlib.Core.Logic.{_⊎_}
 use mathlib.Core.Path.{_≡_}
 use lib.Dec.{leb, eqb}
@@ -35,9 +36,9 @@ pub record First (most r : ℕ) (test : ℕ → Bool) : Type 0 where
   pub there : (r ≡ most) ⊎ (test r ≡ true)
 
 -- what would be more than a waiting cycle or an instruction, j cycles later: a record, a byte to send or an interrupt
-abbrev pub stirs : Terms → State → ℕ → Bool
-stirs t s j =
-    (dueAt (t .session) (s .cycles .0 + j) (s .place) || wantsToSend (ticksSerial j (s .machine .chip .bus .serial)))
+abbrev pub stirs : List ℕ → State → ℕ → Bool
+stirs session s j =
+    (dueAt session (s .cycles .0 + j) (s .place) || wantsToSend (ticksSerial j (s .machine .chip .bus .serial)))
     || isDue (pendingOf (passedOf j (s .machine)))
 
 -- after a leap from s the state is r: within a wait, the leap ends there

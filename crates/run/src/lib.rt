@@ -5,6 +5,7 @@ use boundary::Grown;
 use boundary::Progress;
 use boundary::State;
 use boundary::Stop;
+use boundary::Watch;
 use chip::Chip;
 use counts::Cycles;
 use counts::Entries;
@@ -25,7 +26,8 @@ ghost use Rattle.timer.specs.Timer.{ticks};
 ghost use Rattle.bus.specs.Access.{memories};
 ghost use Rattle.machine.specs.Machine.{passedOf};
 ghost use Rattle.machine.specs.Interrupts.{pendingOf};
-ghost use Rattle.boundary.specs.World.{lent, terms, worldOf, endedOf, grown};
+ghost use Rattle.boundary.specs.declared.Watch.{Watch};
+ghost use Rattle.boundary.specs.World.{lending, watching, worldOf, endedOf, grown};
 ghost use Rattle.boundary.specs.Boundary.{runOf};
 ghost use Rattle.boundary.specs.Counts.{Fine, Fits};
 ghost use Rattle.run.specs.Leaps.{isDue, First, stirs, AfterLeap, strodeOf, Paced};
@@ -107,7 +109,7 @@ fn interrupt_room(most: u32, m: Machine) -> u32
 // How many cycles pass before a boundary that is more than a waiting cycle or an instruction.
 fn room(session: &[u8], n: u32, s: State) -> u32
     requires { ⌜ s .cycles .0 ≤ n ⌝ }
-    ensures { λ r. ⌜ First (n - s .cycles .0) r (stirs (terms (now (session .entry)) n) s) ⌝ }
+    ensures { λ r. ⌜ First (n - s .cycles .0) r (stirs (now (session .entry)) s) ⌝ }
 {
     let m = s.machine;
     let a = record_room(n - s.cycles.0, session, s.cycles, s.place);
@@ -118,7 +120,7 @@ fn room(session: &[u8], n: u32, s: State) -> u32
 // After a waiting cycle, the rest of its leap at once: the run goes on the same, from where the leap ends.
 fn leap(session: &[u8], n: u32, s: State) -> State
     requires { ⌜ Fine s × (n ≤ 1000000000) ⌝ }
-    ensures { λ r. ⌜ AfterLeap (terms (now (session .entry)) n) s r ⌝ }
+    ensures { λ r. ⌜ ((watch : Watch) → AfterLeap (watching (now (session .entry)) n watch) s r) ⌝ }
 {
     if !(s.inside & s.machine.chip.registers.idles()) {
         return s;
@@ -166,7 +168,8 @@ fn strode(s: State, c: Registers, cycles: Cycles, instructions: Instructions) ->
 // Plain instructions one after the other, as long as nothing else stirs: the run goes on the same, from where they end.
 fn stride(session: &[u8], n: u32, s: State, image: &mut [u8]) -> State
     requires { ⌜ Fine s × (n ≤ 1000000000) ⌝ }
-    ensures { λ r. ⌜ Paced (terms (now (session .entry)) n) s (memories (now (image .entry))) r (memories (now (image .exit))) ⌝ }
+    ensures { λ r. ⌜ ((watch : Watch) → Paced (watching (now (session .entry)) n watch)
+        s (memories (now (image .entry))) r (memories (now (image .exit)))) ⌝ }
 {
     if n <= s.cycles.0 {
         return s;
@@ -199,7 +202,8 @@ fn stride(session: &[u8], n: u32, s: State, image: &mut [u8]) -> State
 // What either run does between two boundaries.
 fn pace(leaping: bool, session: &[u8], n: u32, s: State, image: &mut [u8]) -> State
     requires { ⌜ Fine s × (n ≤ 1000000000) ⌝ }
-    ensures { λ r. ⌜ Paced (terms (now (session .entry)) n) s (memories (now (image .entry))) r (memories (now (image .exit))) ⌝ }
+    ensures { λ r. ⌜ ((watch : Watch) → Paced (watching (now (session .entry)) n watch)
+        s (memories (now (image .entry))) r (memories (now (image .exit)))) ⌝ }
 {
     if s.machine.chip.registers.idles() {
         if leaping {
@@ -215,17 +219,20 @@ pub fn run(
     leaping: bool,
     session: &[u8],
     n: u32,
+    watch: Watch,
     image: &mut [u8],
     output: &mut [u8],
+    log: &mut [u8],
     start: State,
 ) -> Outcome
     requires { ⌜ Fine start × (n ≤ 1000000000) ⌝ }
-    ensures { λ r. ⌜ endedOf (r .stop) (worldOf (r .state) (lent (now (image .exit)) (now (output .exit))))
-        ≡ runOf (terms (now (session .entry)) n) (worldOf start (lent (now (image .entry)) (now (output .entry)))) ⌝ }
+    ensures { λ r. ⌜ endedOf (r .stop) (worldOf (r .state) (lending (now (image .exit)) (now (output .exit)) (now (log .exit))))
+        ≡ runOf (watching (now (session .entry)) n watch)
+        (worldOf start (lending (now (image .entry)) (now (output .entry)) (now (log .entry)))) ⌝ }
 {
     let mut s = start;
     loop {
-        let t = s.boundary(session, n, image, output);
+        let t = s.boundary(session, n, watch, image, output, log);
         let next = t.state;
         let progress = t.progress;
         match progress {

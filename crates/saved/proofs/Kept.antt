@@ -20,7 +20,8 @@ use Rattle.machine.specs.Machine.{rangesOf}
 use Rattle.saved.specs.Layout.{armsOf, savedOf, registersIn, portsIn, timerIn, serialIn, busIn, machineIn}
 use Rattle.asking.specs.Asking.{gives, replies}
 use Rattle.saved.specs.Answers.{standsOf, rangesIn, loadOf}
-use Rattle.saved.proofs.Bytes.{word-kept, long-kept, bool-kept, bool-most, bits-kept, arms-none, control-none}
+use Rattle.bits.proofs.Bytes.{bool-kept, bool-most, bits-kept}
+use Rattle.saved.proofs.Bytes.{word-kept, long-kept, arms-none, control-none}
 use Rattle.saved.proofs.Answers.{wrong-machine, ready}
 
 module _ (m : Machine) where

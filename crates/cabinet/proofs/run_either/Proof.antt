@@ -1,21 +1,37 @@
+-- `run_either` meets its contract: the watched run's answer, with nothing watched and no log. Assumes nothing.
+use Prim.Native.Nat.{ℕ}
+use native.Mathlib.Omega.{arith}
 use borrow.Author.Needs.{needs}
-use mathlib.Core.Path.{ap, _∙_}
-use Rattle.boundary.specs.World.{lent}
-use Rattle.cabinet.specs.declared.Ran.{Ran}
-use Rattle.cabinet.specs.Answers.{End, answered, answerAt}
+use mathlib.Core.List.{List, [], _∷_}
+use mathlib.Core.Path.{_≡_, refl, sym, ap, _∙_}
+use lib.ListN.{length}
+use Rattle.boundary.specs.declared.Watch.{Watch}
+use Rattle.boundary.specs.World.{lent, lending, watching}
+use Rattle.cabinet.specs.Answers.{answered, answerOf, leapsOf}
 use Rattle.cabinet.proofs.run_either.Statement.{statement}
 use Rattle.cabinet.proofs.run_either.Tie as tie
+
+no-bytes : (l : List ℕ) → length l ≡ 0 → l ≡ []
+no-bytes [] e = refl
+no-bytes (b ∷ l) e = absurd (let z : ⊥ = omega arith in z)
 
 pub run-either-spec : {M : Type 1} → statement M
 run-either-spec =
     tie.close
     (tie.spec
-    (λ c κs. search needs)  -- end-requires
-    (λ c κs. search needs)  -- report-requires
+    (λ c κs. search needs)  -- nothing-requires
+    (λ c. search needs)  -- array-borrow-prefix-none
+    (λ c. search needs)  -- slice-aggregate-watch-either
+    (λ c κs. search needs)  -- watch-either-requires
     (λ c. search needs)  -- same-length
     (λ c. search needs)  -- same-length-2
     (λ c.
-    let e = c .before .before .before .before .before .end in (
-      ap (λ (r : Ran). answered r (lent (e .last .1 .0) (e .last .1 .1 .1 .1 .1 .0))) (c .report .ensures) ∙ ap answerAt (e .ensures),
-      ap (λ (x : End). x .world .state .leaps .0) (e .ensures),
+    let a = c .before .before .before .before .before .before .before .before .before .before .before .before .before .args in
+    let w = c .before .before .before .before .before .watch-either in
+    let l = lent (a .image .now) (a .output .now) in
+    let no-log = no-bytes _ (w .kept .1 .1 .1 .1 .1 .1 .1 .0) in (
+      ap (λ (log : List ℕ). answered (w .result .ran) (lending (w .last .1 .0) (w .last .1 .1 .1 .1 .1 .1 .0) log)) (sym no-log)
+          ∙ w .ensures .0
+          ∙ ap (λ (u : Watch). answerOf (watching (a .session .now) (a .n) u) (a .m) l) (c .before .before .before .before .before .before .before .before .nothing .ensures),
+      w .ensures .1 ∙ ap (λ (u : Watch). leapsOf (watching (a .session .now) (a .n) u) (a .m) l) (c .before .before .before .before .before .before .before .before .nothing .ensures),
     )))  -- returns

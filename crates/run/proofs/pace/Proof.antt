@@ -10,8 +10,8 @@ pace-spec =
     (tie.spec
     (λ c κs. search needs)  -- idles-requires
     (λ c κs. c .before .before .before .before .before .pre)  -- leap-requires
-    (λ c. let l = c .leap .ensures in (l .0, l .1, λ k. l .3 _))  -- returns
-    (λ c. (c .before .before .before .before .before .pre .0, omega arith, λ k. refl))  -- returns-2
+    (λ c watch. let l = c .leap .ensures watch in (l .0, l .1, λ k. l .3 _))  -- returns
+    (λ c watch. (c .before .before .before .before .before .pre .0, omega arith, λ k. refl))  -- returns-2
     (λ c κs. c .before .before .before .before .before .pre)  -- stride-requires
     (λ c. search needs)  -- same-length
     (λ c. c .before .before .stride .ensures))  -- returns-3

@@ -1,9 +1,9 @@
 use borrow.Author.Needs.{needs}
 use mathlib.Core.Path.{sym, ap, _∙_}
 use Rattle.turns.specs.Turn.{more}
-use Rattle.boundary.specs.World.{lent, World, worldOf}
+use Rattle.boundary.specs.World.{lending, worldOf}
 use Rattle.boundary.specs.declared.State.{State}
-use Rattle.boundary.proofs.Cases.{act-enters, act-waits, act-steps}
+use Rattle.boundary.proofs.Cases.{act-accepts, act-waits, act-steps}
 use Rattle.boundary.proofs.State.act.Statement.{statement}
 use Rattle.boundary.proofs.State.act.Tie as tie
 
@@ -13,26 +13,29 @@ act-spec =
     (tie.spec
     (λ c κs. search needs)  -- pending-requires
     (λ c. search needs)  -- enum-known-p
-    (λ c κs. search needs)  -- enter-requires
+    (λ c κs. search needs)  -- accept-requires
     (λ c. search needs)  -- enum-told
     (λ c κs. search needs)  -- idles-requires
     (λ c κs. search needs)  -- wait-requires
     (λ c.
-    let a = c .before .before .before .before .before .before .before .args in
+    let a = c .before .before .before .before .before .before .before .before .args in
     let none = sym (c .before .before .before .before .before .pending .ensures) ∙ c .before .before .before .enum-told .given .1 in
     let idle = sym (c .before .before .idles .ensures) ∙ c .before .if1 .taken in
     λ o.
-    ap (λ (x : State). more (worldOf x (lent (a .image .now) o))) (c .wait .ensures)
-    ∙ sym (act-waits (a .self) (lent (a .image .now) o) none idle))  -- returns
+    let l = lending (a .image .now) o (a .log .now) in
+    ap (λ (x : State). more (worldOf x l)) (c .wait .ensures) ∙ sym (act-waits (a .self) l (a .watch) none idle))  -- returns
     (λ c κs. search needs)  -- step-requires
     (λ c. search needs)  -- same-length
-    (λ c.
-    let a = c .before .before .before .before .before .before .before .before .before .args in
-    let due = sym (c .before .before .before .before .before .before .before .pending .ensures) ∙ c .before .before .before .before .before .p .given .1 in
-    λ o. ap (λ (w : World). more w) (c .before .before .enter .ensures o) ∙ sym (act-enters (a .self) (lent (a .image .now) o) due))  -- returns-2
     (λ c. search needs)  -- same-length-2
     (λ c.
-    let a = c .before .before .before .before .before .before .before .before .before .before .args in
+    let a = c .before .before .before .before .before .before .before .before .before .before .before .before .before .args in
+    let due = sym (c .before .before .before .before .before .before .before .before .before .before .pending .ensures) ∙ c .before .before .before .before .before .before .before .before .p .given .1 in
+    λ o. c .before .before .before .before .accept .ensures o ∙ sym (act-accepts (a .self) (lending (a .image .now) o (a .log .now)) (a .watch) due))  -- returns-2
+    (λ c. search needs)  -- same-length-3
+    (λ c.
+    let a = c .before .before .before .before .before .before .before .before .before .before .before .args in
     let none = sym (c .before .before .before .before .before .before .before .before .pending .ensures) ∙ c .before .before .before .before .before .before .enum-told .given .1 in
     let busy = sym (c .before .before .before .before .before .idles .ensures) ∙ c .before .before .before .before .if1 .left in
-    λ o. c .before .before .step .ensures o ∙ sym (act-steps (a .self) (lent (a .image .now) o) none busy)))  -- returns-3
+    λ o.
+    let l = lending (a .image .now) o (a .log .now) in
+    c .before .before .step .ensures l ∙ sym (act-steps (a .self) l (a .watch) none busy)))  -- returns-3

@@ -1,7 +1,8 @@
 use native.Mathlib.Omega.{arith}
 use borrow.Author.Needs.{needs}
 use mathlib.Core.Path.{sym, _∙_}
-use Rattle.boundary.specs.World.{lent}
+use Rattle.bus.specs.Access.{memories}
+use Rattle.boundary.specs.World.{withMemories}
 use Rattle.boundary.proofs.Cases.{step-stops, step-goes, step-fits}
 use Rattle.boundary.proofs.State.step.Statement.{statement}
 use Rattle.boundary.proofs.State.step.Tie as tie
@@ -21,9 +22,9 @@ step-spec =
     (λ c. search needs)  -- same-length
     (λ c.
     let a = c .before .before .before .before .before .args in
-    λ o. step-stops (a .self) (lent (a .image .now) o) (sym (c .before .before .look .ensures) ∙ c .enum-told .given .1))  -- returns
+    λ l. step-stops (a .self) (withMemories l (memories (a .image .now))) (sym (c .before .before .look .ensures) ∙ c .enum-told .given .1))  -- returns
     (λ c. search needs)  -- same-length-2
     (λ c.
     let a = c .before .before .before .before .before .before .before .before .before .before .before .before .args in
     let runs = sym (c .before .before .before .before .before .before .before .before .before .look .ensures) ∙ c .before .before .before .before .before .before .before .look2 .given .1 in
-    λ o. step-goes (a .self) (lent (a .image .now) o) _ runs (c .before .before .before .before .step .ensures) (c .moved .ensures)))  -- returns-2
+    λ l. step-goes (a .self) (withMemories l (memories (a .image .now))) _ runs (c .before .before .before .before .step .ensures) (c .moved .ensures)))  -- returns-2
