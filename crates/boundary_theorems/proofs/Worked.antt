@@ -30,7 +30,7 @@ use Rattle.boundary.specs.Start.{startWorld, ranOf}
 use Rattle.boundary_theorems.specs.Trace.{markOf, traceOf, groups}
 
 -- a machine after reset with PC at $0004, the stack at $0087 and I clear, waiting or not
-abbrev start : Bool → Machine
+abbrev pub start : Bool → Machine
 start waiting =
     let m = resetOf (memories []) (cold 65536) in
     onChip m (record { a = 0; b = 0; x = 0; sp = 0x87; pc = 4; codes = codesOf 0xC0; waiting = waiting }) (m .chip .bus)
@@ -43,18 +43,18 @@ sender = onBus (start true) (writeOf 0x13 0x41 (readOf (memories []) 0x11 (write
 abbrev image : List ℕ → List ℕ
 image code = 0 ∷ 0 ∷ 0 ∷ 0 ∷ (code ++ replicate 0x80 0)
 
-abbrev blank : List ℕ
+abbrev pub blank : List ℕ
 blank = image (0 ∷ 0 ∷ 0 ∷ 0 ∷ [])
 
 -- an idle line, and IRQ1 low, at a time
 abbrev idleAt : ℕ → List ℕ
 idleAt time = 6 ∷ 0 ∷ 6 ∷ 0 ∷ time ∷ 0 ∷ 0 ∷ 0 ∷ []
 
-abbrev irq1At : ℕ → List ℕ
+abbrev pub irq1At : ℕ → List ℕ
 irq1At time = 7 ∷ 0 ∷ 3 ∷ 0 ∷ time ∷ 0 ∷ 0 ∷ 0 ∷ 0 ∷ []
 
 -- the reply, cycles, instructions, entries, records used, bytes sent, leaps and PC
-abbrev told : Ended → List ℕ
+abbrev pub told : Ended → List ℕ
 told e =
     let s = e .world .state in
     stopNumber (e .stop) ∷ s .cycles .0 ∷ s .instructions .0 ∷ s .entries .0 ∷ s .used .0 ∷ s .sent .0 ∷ s .leaps .0 ∷ s .machine .chip .registers .pc ∷ []

@@ -2,7 +2,7 @@
 -- steps 4 to 6 alone. Assumes nothing.
 use Prim.Native.Nat.{ℕ, _<_}
 use native.Mathlib.Omega.{arith}
-use mathlib.Core.Path.{_≡_, refl, ap, subst, _∙_}
+use mathlib.Core.Path.{_≡_, refl, ap, _∙_}
 use mathlib.Core.Bool.{Bool, true, false, not, _&&_}
 use mathlib.Core.List.{List}
 use Rattle.laws.proofs.Conds.{passes}
@@ -12,7 +12,7 @@ use Rattle.machine.specs.declared.Pending.the-variants.{Due}
 use Rattle.machine.specs.Interrupts.{pendingOf}
 use Rattle.boundary.specs.declared.State.{State}
 use Rattle.boundary.specs.World.{memoriesIn, Terms, World, worldOf}
-use Rattle.boundary.specs.Boundary.{due, recordsOf, fedWorld, sendsOf, sentState, onPending, actOf, sendOf, boundaryOf}
+use Rattle.boundary.specs.Boundary.{due, fedWorld, sendsOf, sentState, onPending, actOf, sendOf, boundaryOf}
 use Rattle.boundary.proofs.Feeding.{records-done, records-end}
 use Rattle.boundary.proofs.Cases.{records-cycles, below-limit, send-rests, act-accepts}
 use Rattle.boundary_theorems.specs.Trace.{readyState}
