@@ -1,6 +1,6 @@
 #!/bin/bash
-# Faults at every system call of a night, of a first night and of a recovery; clean-ups that are killed; two nights at once; a call that is held while
-# another night with other names commits. docs/NIGHT.md says what must hold.
+# Faults at every system call of a first night, of a night with a log and of a recovery; clean-ups that are killed; two nights at once; a call that is
+# held while another night with other names commits. docs/NIGHT.md says what must hold.
 #   bash tools/night_faults.sh        some minutes; prints how many faults and how many bad, and each bad one; status 1 where one is bad
 # Needs strace, python3, x86-64, and `rt check night` done. It works in a fresh folder under TMPDIR.
 set -u
@@ -9,16 +9,16 @@ mapfile -t words < <(sh "$root/tools/launch.sh" --words)
 [ -x "$root/target/bin/night" ] && command -v strace >/dev/null || { echo "needs strace, and rt check night" >&2; exit 2; }
 room=$(mktemp -d) && trap 'rm -rf "$room"' EXIT
 cd "$room" && mkdir sets d || exit 2
-files="image state state.rest output state.names"
+files="image state state.rest output state.names log"
 exec 2>/dev/null  # the shell tells of each one that is killed
 
-# a ROM that counts in $80 and sends the count for ever; an idle line every 4,000 cycles
+# a ROM that counts in $80 and sends the count for ever, and returns from NMI at once; an idle line and an NMI in turn, every 2,000 cycles
 python3 - <<'PY'
 image = bytearray(65536)
-image[0xF000:0xF00F] = bytes.fromhex("86029711" "7C0080" "9611" "9680" "9713" "20F5")
-image[0xFFFE:] = b"\xF0\x00"
+image[0xF000:0xF013] = bytes.fromhex("8E00FF" "86029711" "7C0080" "9611" "9680" "9713" "20F5" "3B")
+image[0xFFFC:] = b"\xF0\x12\xF0\x00"
 open("rom", "wb").write(image)
-open("evening", "wb").write(b"".join(b"\x06\0\x06\0" + (4000 * k).to_bytes(4, "little") for k in range(40)))
+open("evening", "wb").write(b"".join(b"\x06\0" + (b"\x06\0", b"\x04\0")[k % 2] + (2000 * k).to_bytes(4, "little") for k in range(80)))
 PY
 
 night() { "${words[@]}" "$root/target/bin/night" "$@"; }             # the program, in the folder d
@@ -26,7 +26,7 @@ faulty() { strace -o ../log "$@" "${words[@]}" "$root/target/bin/night" "${call[
 keep() { rm -rf "sets/$1"; cp -r d "sets/$1"; }
 back() { rm -rf d; cp -r "sets/$1" d; }
 said() { grep -q "$1" ../out; }
-same() {                                                             # the five files are those of a set
+same() {                                                             # the files are those of a set
     local f
     for f in $files; do
         if [ -e "../sets/$1/$f" ]; then cmp -s "../sets/$1/$f" "$f" || return 1; else [ ! -e "$f" ] || return 1; fi
@@ -83,9 +83,9 @@ faults() {
 # a write fails, and the clean-up is killed
 cleanups() {
     local k j syscall
-    for k in 1 2 3 4 5; do
+    for k in 1 2 3 4 5 6; do
         for syscall in unlink rmdir; do
-            for j in 1 2 3 4 5; do
+            for j in 1 2 3 4 5 6; do
                 [ $syscall = unlink ] || [ "$j" = 1 ] || continue
                 back one; cd d || exit 2
                 faulty -e trace=fsync,$syscall -e "inject=fsync:error=ENOSPC:when=$((k + 1))" -e "inject=$syscall:signal=KILL:when=$j"
@@ -99,7 +99,7 @@ cleanups() {
 cp rom d/image; cp evening d/evening; keep none
 call=(image evening 9000 61440 state output)
 (cd d && night "${call[@]}" >/dev/null); keep one
-call=(image state.rest 14000 61440 state output)
+call=(--log log image state.rest 14000 61440 state output)
 (cd d && night "${call[@]}" >/dev/null); keep two
 (cd d && night "${call[@]}" >/dev/null); keep three
 back one; (cd d && faulty -e trace=rename -e inject=rename:signal=KILL:when=3); keep half
@@ -109,7 +109,7 @@ for f in image state state.rest output; do
 done
 
 call=(image evening 9000 61440 state output); faults first none none one
-call=(image state.rest 14000 61440 state output); faults night one one two
+call=(--log log image state.rest 14000 61440 state output); faults night one one two
 faults recovery half two three
 cleanups
 echo "faults $total bad $bad (STATE.done stood after $stood, STATE.night after $stuck; all new and not told $untold)"
@@ -130,22 +130,23 @@ done
 echo "two at once 100 bad $worse (the second refused $refused, followed $followed)"
 
 # The first call finds STATE.done and is held at its first rename; meanwhile the second, with other names, puts those files in place, runs, commits, and
-# is held after its commit (its sixth rename). Each night's files must come to its own places.
+# is held after its commit (its seventh rename). Each night's files must come to its own places.
 back half; cd d || exit 2
 cp ../sets/two/image image2
 faulty -e trace=rename -e inject=rename:delay_enter=2000000:when=1 & a=$!
 sleep 0.5
-strace -o ../held -e trace=rename -e inject=rename:delay_exit=3000000:when=6 \
-    "${words[@]}" "$root/target/bin/night" image2 state.rest 14000 61440 state output2 >../second
+strace -o ../held -e trace=rename -e inject=rename:delay_exit=3000000:when=7 \
+    "${words[@]}" "$root/target/bin/night" --log log2 image2 state.rest 14000 61440 state output2 >../second
 wait $a
 mixed=0
-for f in 'image two image' 'output two output' 'image2 three image' 'output2 three output' 'state three state' 'state.rest three state.rest'; do
+for f in 'image two image' 'output two output' 'log two log' 'image2 three image' 'output2 three output' 'log2 three log' \
+    'state three state' 'state.rest three state.rest'; do
     read -r here set there <<<"$f"
     cmp -s "$here" "../sets/$set/$there" || { mixed=1; echo "bad: a held call: $here is not the one of night $set"; }
 done
 if ! said '^refused 34' || ! grep -q '^night stop' ../second || [ -e state.done ] || [ -e state.night ]; then
     mixed=1; echo "bad: a held call: $(cat ../out ../second)"
 fi
-[ "$(cat state.names)" = image2/output2 ] || { mixed=1; echo "bad: a held call: state.names"; }
+[ "$(cat state.names)" = image2/output2/log2 ] || { mixed=1; echo "bad: a held call: state.names"; }
 echo "a held call: bad $mixed"
 [ "$bad$worse$mixed" = 000 ]

@@ -1,9 +1,10 @@
--- The ways that a C run can end, as laws over plain variables. Assumes nothing.
+-- The ways that a C run can end, plain or watched, as laws over plain variables. Assumes nothing.
 use Prim.Native.Nat.{ℕ, _≤_, _<_}
-use mathlib.Core.Bool.{Bool}
-use mathlib.Core.List.{List}
+use native.Mathlib.Omega.{arith}
+use mathlib.Core.Bool.{Bool, true, false}
+use mathlib.Core.List.{List, [], _∷_}
 use mathlib.Core.Option.{none}
-use mathlib.Core.Path.{_≡_, sym, ap, _∙_}
+use mathlib.Core.Path.{_≡_, refl, sym, ap, _∙_}
 use lib.Dec.{ltb}
 use lib.ListN.{length}
 use borrow.Author.Tests.{eq-eqb, lt-ltb, le-ltb}
@@ -11,7 +12,8 @@ use Rattle.laws.proofs.Conds.{picks, passes}
 use Rattle.numbers.specs.Numbers.{over}
 use Rattle.replies.specs.Replies.{told, toldReply}
 use Rattle.machine.specs.declared.Machine.{Machine}
-use Rattle.boundary.specs.World.{Lent, Terms}
+use Rattle.boundary.specs.declared.Watch.{Watch}
+use Rattle.boundary.specs.World.{Lent, lent, lending, Terms, terms, watching, unwatched}
 use Rattle.cabinet.specs.declared.Leapt.{Leapt}
 use Rattle.cabinet.specs.Answers.{Answer, answered, answerOf, leapsOf}
 use Rattle.saved.specs.declared.Loaded.{Loaded}
@@ -19,9 +21,10 @@ use Rattle.saved.specs.Layout.{savedOf}
 use Rattle.asking.specs.Asking.{gives}
 use Rattle.saved.specs.Answers.{leftOf, toldLoaded, loadOf}
 use Rattle.saved.proofs.Exactly.{load-gives}
+use Rattle.board_numbers.specs.Watch.{asksLog, unknownBits}
 use Rattle.board_results.specs.declared.Counted.{Counted}
 use Rattle.board_results.specs.Results.{toldCounts, noCounts, recordSize, recordBytes, unfitReply}
-use Rattle.board.specs.Board.{Buffers, buffers, Called, called, countsOf, countedOf, reported, refusedCall, ranCall, onLoad, runCall}
+use Rattle.board.specs.Board.{Buffers, buffers, Called, called, countsOf, countedOf, reported, refusedCall, ranCall, onLoad, runCall, watchCall}
 
 module _ (leaping : Bool) (t : Terms) (b : Buffers) where
   pub run-short : {size : ℕ} → size ≡ recordSize leaping → length (b .result) < size → called 29 b ≡ runCall leaping t b
@@ -63,3 +66,31 @@ module _ (leaping : Bool) (t : Terms) (b : Buffers) where
       ∙ ap (λ (c : Counted). reported leaping n (toldCounts c) (p .leaps .0) (buffers kept l (b .result))) f
       ∙ ap (λ (x : Answer). told-of x (p .leaps .0)) (a .0)
       ∙ ap (told-of (answerOf t m (b .lent))) (a .1)
+
+no-bytes : (l : List ℕ) → length l ≡ 0 → l ≡ []
+no-bytes [] e = refl
+no-bytes (x ∷ l) e = absurd (let z : ⊥ = omega arith in z)
+
+module _ (leaping : Bool) (session : List ℕ) (n : ℕ) (b : Buffers) where
+  -- nothing is watched, and there is no log
+  pub plain-left : {watch : Watch} {k : ℕ} {machine image output log result : List ℕ} → watch ≡ unwatched → length log ≡ 0
+      → called k (buffers machine (lending image output log) result) ≡ runCall leaping (watching session n watch) b
+      → called k (buffers machine (lent image output) result) ≡ runCall leaping (terms session n) b
+  plain-left {watch} {k} {machine} {image} {output} {log} {result} u h e =
+      ap (λ (l : List ℕ). called k (buffers machine (lending image output l) result)) (sym (no-bytes log h))
+      ∙ e
+      ∙ ap (λ (w : Watch). runCall leaping (watching session n w) b) u
+
+  pub watch-unknown : (bits since : ℕ) {unknown : Bool} → unknown ≡ unknownBits bits → unknown ≡ true
+      → called 36 b ≡ watchCall leaping session n bits since b
+  unfolding watchCall
+  watch-unknown bits since e h = sym (picks _ _ (sym e ∙ h))
+
+  pub watch-known : (bits since : ℕ) {unknown log : Bool} {c : Called} → unknown ≡ unknownBits bits → unknown ≡ false → log ≡ asksLog bits
+      → c ≡ runCall leaping (watching session n (record { log = log; since = record { 0 = since } })) b
+      → c ≡ watchCall leaping session n bits since b
+  unfolding watchCall
+  watch-known bits since e h f g =
+      g
+      ∙ ap (λ (log : Bool). runCall leaping (watching session n (record { log = log; since = record { 0 = since } })) b) f
+      ∙ sym (passes _ _ (sym e ∙ h))

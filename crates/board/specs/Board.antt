@@ -1,6 +1,7 @@
 -- What each C run leaves, for all inputs: the number that it returns, and every byte of what it is lent to write.
 -- Beside 01's replies: 26 a saved machine that is not 42 bytes, 27 its version is another, 28 its bytes stand for no machine (crates/saved);
--- 29 a buffer for a record is too short. A call that returns 26 or above writes nothing. The other C calls: crates/board_calls.
+-- 29 a buffer for a record is too short; 36 a watched run is asked for what there is not. A call that returns 26 or above writes nothing.
+-- The other C calls: crates/board_calls.
 use Prim.Native.Nat.{ℕ}
 use mathlib.Core.Bool.{Bool, true, false, cond}
 use mathlib.Core.List.{List}
@@ -10,12 +11,14 @@ use lib.ListN.{length}
 use Rattle.numbers.specs.Numbers.{over}
 use Rattle.replies.specs.Replies.{Told, told}
 use Rattle.machine.specs.declared.Machine.{Machine}
-use Rattle.boundary.specs.World.{Lent, Terms}
+use Rattle.boundary.specs.declared.Watch.{Watch}
+use Rattle.boundary.specs.World.{Lent, Terms, watching}
 use Rattle.cabinet.specs.declared.Ran.{Ran}
 use Rattle.cabinet.specs.Answers.{Answer, answerOf, leapsOf}
 use Rattle.asking.specs.Asking.{Given, gives, replies}
 use Rattle.saved.specs.Layout.{savedOf}
 use Rattle.saved.specs.Answers.{loadOf}
+use Rattle.board_numbers.specs.Watch.{asksLog, unknownBits}
 use Rattle.board_results.specs.declared.Counted.{Counted}
 use Rattle.board_results.specs.Results.{Counts, counts, noCounts, recordSize, recordBytes, unfitReply}
 
@@ -73,3 +76,12 @@ singleCall = runCall false
 
 abbrev pub leapingCall : Terms → Buffers → Called
 leapingCall = runCall true
+
+-- what the bits ask for, of a run before which so many cycles had passed
+abbrev pub watchOf : ℕ → ℕ → Watch
+watchOf bits since = record { log = asksLog bits; since = record { 0 = since } }
+
+-- a watched run: 36; then as a run
+unfoldable pub watchCall : Bool → List ℕ → ℕ → ℕ → ℕ → Buffers → Called
+watchCall leaping session limit bits since b =
+    cond (unknownBits bits) (called 36 b) (runCall leaping (watching session limit (watchOf bits since)) b)

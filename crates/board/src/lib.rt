@@ -1,15 +1,16 @@
-// The C calls: power-on, the two runs, the question about one opcode and the rest of a session, over numbers and lent bytes. board/pliruzza.h declares them
-// and says what each number and each byte means.
+// The C calls: power-on, the two runs, plain and watched, the question about one opcode and the rest of a session, over numbers and lent bytes.
+// board/pliruzza.h declares them and says what each number and each byte means.
 use board_results::Counted;
+use boundary::Watch;
 use cabinet::Ran;
 use counts::Cycles;
 use counts::Records;
 use saved::Loaded;
 ghost use mathlib.Core.Path.{_≡_};
 ghost use mathlib.Core.Bool.{true, false};
-ghost use Rattle.boundary.specs.World.{lent, terms};
+ghost use Rattle.boundary.specs.World.{lent, lending, terms, watching};
 ghost use Rattle.board_calls.specs.Calls.{wrote, powerCall, askCall, rested, restCall};
-ghost use Rattle.board.specs.Board.{countedOf, buffers, called, runCall, singleCall, leapingCall};
+ghost use Rattle.board.specs.Board.{countedOf, buffers, called, runCall, singleCall, leapingCall, watchCall};
 
 // Power-on into a saved machine.
 #[no_mangle]
@@ -67,12 +68,14 @@ fn run_call(
     machine: &mut [u8],
     session: &[u8],
     n: u32,
+    watch: Watch,
     output: &mut [u8],
+    log: &mut [u8],
     result: &mut [u8],
 ) -> u32
-    ensures { λ k. ⌜ called k (buffers (now (machine .exit)) (lent (now (image .exit)) (now (output .exit))) (now (result .exit)))
-        ≡ runCall leaping (terms (now (session .entry)) n)
-        (buffers (now (machine .entry)) (lent (now (image .entry)) (now (output .entry))) (now (result .entry))) ⌝ }
+    ensures { λ k. ⌜ called k (buffers (now (machine .exit)) (lending (now (image .exit)) (now (output .exit)) (now (log .exit))) (now (result .exit)))
+        ≡ runCall leaping (watching (now (session .entry)) n watch)
+        (buffers (now (machine .entry)) (lending (now (image .entry)) (now (output .entry)) (now (log .entry))) (now (result .entry))) ⌝ }
 {
     let size = board_results::record_size(leaping);
     if result.len() < size {
@@ -81,7 +84,7 @@ fn run_call(
     let loaded = saved::load(&machine[..]);
     match loaded {
         Loaded::Ready(m) => {
-            let leapt = cabinet::run_either(leaping, image, m, session, n, output);
+            let leapt = cabinet::watch_either(leaping, image, m, session, n, watch, output, log);
             let ran = leapt.ran;
             let reply = ran.reply;
             let left = ran.machine;
@@ -101,6 +104,71 @@ fn run_call(
     }
 }
 
+// Either run with nothing watched.
+fn plain_call(
+    leaping: bool,
+    image: &mut [u8],
+    machine: &mut [u8],
+    session: &[u8],
+    n: u32,
+    output: &mut [u8],
+    result: &mut [u8],
+) -> u32
+    ensures { λ k. ⌜ called k (buffers (now (machine .exit)) (lent (now (image .exit)) (now (output .exit))) (now (result .exit)))
+        ≡ runCall leaping (terms (now (session .entry)) n)
+        (buffers (now (machine .entry)) (lent (now (image .entry)) (now (output .entry))) (now (result .entry))) ⌝ }
+{
+    let mut none = [0u8; 1];
+    run_call(
+        leaping,
+        image,
+        machine,
+        session,
+        n,
+        Watch::nothing(),
+        output,
+        &mut none[..0],
+        result,
+    )
+}
+
+// Either run, watched as the bits ask.
+fn watch_call(
+    leaping: bool,
+    image: &mut [u8],
+    machine: &mut [u8],
+    session: &[u8],
+    n: u32,
+    bits: u32,
+    since: u32,
+    output: &mut [u8],
+    log: &mut [u8],
+    result: &mut [u8],
+) -> u32
+    ensures { λ k. ⌜ called k (buffers (now (machine .exit)) (lending (now (image .exit)) (now (output .exit)) (now (log .exit))) (now (result .exit)))
+        ≡ watchCall leaping (now (session .entry)) n bits since
+        (buffers (now (machine .entry)) (lending (now (image .entry)) (now (output .entry)) (now (log .entry))) (now (result .entry))) ⌝ }
+{
+    if board_numbers::unknown_bits(bits) {
+        return 36;
+    }
+    let watch = Watch {
+        log: board_numbers::asks_log(bits),
+        since: Cycles(since),
+    };
+    run_call(
+        leaping,
+        image,
+        machine,
+        session,
+        n,
+        watch,
+        output,
+        log,
+        result,
+    )
+}
+
 // The single run.
 #[no_mangle]
 pub extern "C" fn pliruzza_run_single(
@@ -115,7 +183,7 @@ pub extern "C" fn pliruzza_run_single(
         ≡ singleCall (terms (now (session .entry)) n)
         (buffers (now (machine .entry)) (lent (now (image .entry)) (now (output .entry))) (now (result .entry))) ⌝ }
 {
-    run_call(false, image, machine, session, n, output, result)
+    plain_call(false, image, machine, session, n, output, result)
 }
 
 // The leaping run.
@@ -132,5 +200,67 @@ pub extern "C" fn pliruzza_run_leaping(
         ≡ leapingCall (terms (now (session .entry)) n)
         (buffers (now (machine .entry)) (lent (now (image .entry)) (now (output .entry))) (now (result .entry))) ⌝ }
 {
-    run_call(true, image, machine, session, n, output, result)
+    plain_call(true, image, machine, session, n, output, result)
+}
+
+// The single run, watched.
+#[no_mangle]
+pub extern "C" fn pliruzza_watch_single(
+    image: &mut [u8],
+    machine: &mut [u8],
+    session: &[u8],
+    n: u32,
+    watch: u32,
+    since: u32,
+    output: &mut [u8],
+    log: &mut [u8],
+    result: &mut [u8],
+) -> u32
+    ensures { λ k. ⌜ called k (buffers (now (machine .exit)) (lending (now (image .exit)) (now (output .exit)) (now (log .exit))) (now (result .exit)))
+        ≡ watchCall false (now (session .entry)) n watch since
+        (buffers (now (machine .entry)) (lending (now (image .entry)) (now (output .entry)) (now (log .entry))) (now (result .entry))) ⌝ }
+{
+    watch_call(
+        false,
+        image,
+        machine,
+        session,
+        n,
+        watch,
+        since,
+        output,
+        log,
+        result,
+    )
+}
+
+// The leaping run, watched.
+#[no_mangle]
+pub extern "C" fn pliruzza_watch_leaping(
+    image: &mut [u8],
+    machine: &mut [u8],
+    session: &[u8],
+    n: u32,
+    watch: u32,
+    since: u32,
+    output: &mut [u8],
+    log: &mut [u8],
+    result: &mut [u8],
+) -> u32
+    ensures { λ k. ⌜ called k (buffers (now (machine .exit)) (lending (now (image .exit)) (now (output .exit)) (now (log .exit))) (now (result .exit)))
+        ≡ watchCall true (now (session .entry)) n watch since
+        (buffers (now (machine .entry)) (lending (now (image .entry)) (now (output .entry)) (now (log .entry))) (now (result .entry))) ⌝ }
+{
+    watch_call(
+        true,
+        image,
+        machine,
+        session,
+        n,
+        watch,
+        since,
+        output,
+        log,
+        result,
+    )
 }

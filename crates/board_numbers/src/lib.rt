@@ -1,5 +1,5 @@
 // An instruction as six numbers of a byte each, for callers that can be handed bytes only: the group of its operation, the operation
-// within the group, the accumulator that is part of it, the operand place, the length and the cycles.
+// within the group, the accumulator that is part of it, the operand place, the length and the cycles. And what a run is to watch, as bits of a number.
 use opcodes::Accumulator;
 use opcodes::Branch;
 use opcodes::Dyadic;
@@ -13,6 +13,7 @@ use opcodes::WideStore;
 ghost use mathlib.Core.Path.{_≡_};
 ghost use Rattle.board_numbers.specs.Numbers.{accumulatorNumber, dyadicNumber, monadicNumber, wideNumber, wideStoreNumber};
 ghost use Rattle.board_numbers.specs.Numbers.{internalNumber, branchNumber, placeNumber, operationBytes, instructionBytes};
+ghost use Rattle.board_numbers.specs.Watch.{asksLog, unknownBits};
 
 fn accumulator_number(a: Accumulator) -> u8
     ensures { λ r. ⌜ r ≡ accumulatorNumber a ⌝ }
@@ -186,4 +187,18 @@ pub fn instruction_bytes(i: Instruction) -> [u8; 6]
     let place = i.place;
     let o = operation_bytes(operation);
     [o[0], o[1], o[2], place_number(place), i.length, i.cycles]
+}
+
+// Whether the bits ask for the wake log.
+pub fn asks_log(bits: u32) -> bool
+    ensures { λ r. ⌜ r ≡ asksLog bits ⌝ }
+{
+    bits % 2 == 1
+}
+
+// Whether one of them asks for nothing.
+pub fn unknown_bits(bits: u32) -> bool
+    ensures { λ r. ⌜ r ≡ unknownBits bits ⌝ }
+{
+    bits > 1
 }

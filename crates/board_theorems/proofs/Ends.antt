@@ -12,6 +12,7 @@ use Rattle.laws.proofs.Conds.{cases}
 use Rattle.replies.specs.Replies.{told}
 use Rattle.machine.specs.declared.Machine.{Machine}
 use Rattle.boundary.specs.World.{Terms}
+use Rattle.cabinet.proofs.Ends.{reply-most}
 use Rattle.saved.specs.Layout.{machineIn}
 use Rattle.asking.specs.Asking.{gives, replies}
 use Rattle.saved.specs.Answers.{loadOf}
@@ -25,7 +26,7 @@ unfit-small image =
     cases (λ (k : ℕ). (1 ≤ k) × (k ≤ 2)) (eqb (length image) 65536) (λ _. (omega arith, omega arith)) (λ _. (omega arith, omega arith))
 
 module _ (leaping : Bool) (t : Terms) (b : Buffers) where
-  abbrev Fits : Type 0
+  abbrev pub Fits : Type 0
   Fits = recordSize leaping ≤ length (b .result)
 
   pub call-cases : (P : Called → Type 0)
@@ -47,3 +48,12 @@ module _ (leaping : Bool) (t : Terms) (b : Buffers) where
           (λ _ _ _ _ e. unfit h e)
           (λ _ _ _ _ e. ran h (machineIn (b .machine)) e)
           refl
+
+  -- a run's numbers are below 36
+  pub call-most : runCall leaping t b .number ≤ 29
+  call-most =
+      call-cases (λ c. c .number ≤ 29)
+      (λ _. omega arith)
+      (λ _ k low high e. omega arith)
+      (λ _ e. let u = unfit-small (b .lent .image) .1 in omega arith)
+      (λ _ m e. let u = reply-most t m (b .lent) in omega arith)

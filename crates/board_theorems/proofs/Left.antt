@@ -63,7 +63,7 @@ module _ (leaping : Bool) (t : Terms) (b : Buffers) where
   told-zero reply {a} {z} {leaps} e h =
       ap (λ (x : Answer). tells reply (countsOf x) leaps) e ∙ ap (tells reply (countsOf z)) h
 
-  -- a refusal 1 to 7: image, machine and output are as they were, and the record tells zero counts
+  -- a refusal 1 to 7: image, machine, output and log are as they were, and the record tells zero counts
   pub record Refused (c : Called) : Type 0 where
     pub machine : c .left .machine ≡ b .machine
     pub lent : c .left .lent ≡ b .lent
@@ -105,8 +105,8 @@ records-alike t c leaps buffer =
     let bytes = recordBytes false t c leaps in
     take-at bytes _ 40 h ∙ sym (ap (take 40) (append-assoc bytes (littleEndian 4 leaps) _) ∙ take-at bytes _ 40 h)
 
--- the same number, image, machine and output, and records that begin alike
-abbrev Agree : Called → Called → Type 0
+-- the same number, image, machine, output and log, and records that begin alike
+abbrev pub Agree : Called → Called → Type 0
 Agree s t =
     (s .number ≡ t .number)
     × (s .left .machine ≡ t .left .machine)
@@ -117,7 +117,7 @@ Agree s t =
 abbrev refusedAs : Told → Bool → Buffers → Bool → ℕ → Called
 refusedAs u leaping b c k = cond c (reported leaping u noCounts 0 b) (called k b)
 
--- both runs return the same number and leave the same image, machine and output, and the same first 40 bytes of the result
+-- both runs return the same number and leave the same image, machine, output and log, and the same first 40 bytes of the result
 pub runs-agree : (t : Terms) (b : Buffers) → 44 ≤ length (b .result) → Agree (singleCall t b) (leapingCall t b)
 unfolding runCall
 runs-agree t b h =

@@ -1,10 +1,11 @@
 -- Any two results that a C call's contract admits are equal: the number returned, and every byte of what was lent. Assumes nothing.
 use Prim.Native.Nat.{ℕ}
+use mathlib.Core.Bool.{Bool}
 use mathlib.Core.List.{List}
 use mathlib.Core.Path.{_≡_, sym, ap, _∙_}
 use Rattle.boundary.specs.World.{Terms}
 use Rattle.board_calls.specs.Calls.{Wrote, wrote, powerCall, askCall, Rest, rested, restCall}
-use Rattle.board.specs.Board.{Buffers, Called, called, singleCall, leapingCall}
+use Rattle.board.specs.Board.{Buffers, Called, called, singleCall, leapingCall, watchCall}
 
 same-wrote : (w : Wrote) {j k : ℕ} {a b : List ℕ} → wrote j a ≡ w → wrote k b ≡ w → (j ≡ k) × (a ≡ b)
 same-wrote w p q = let e = p ∙ sym q in (ap (λ (x : Wrote). x .number) e, ap (λ (x : Wrote). x .bytes) e)
@@ -27,6 +28,10 @@ single-settled t l = same-called (singleCall t l)
 pub leaping-settled : (t : Terms) (l : Buffers) {j k : ℕ} {a b : Buffers}
     → called j a ≡ leapingCall t l → called k b ≡ leapingCall t l → (j ≡ k) × (a ≡ b)
 leaping-settled t l = same-called (leapingCall t l)
+
+pub watch-settled : (leaping : Bool) (session : List ℕ) (n bits since : ℕ) (l : Buffers) {j k : ℕ} {a b : Buffers}
+    → called j a ≡ watchCall leaping session n bits since l → called k b ≡ watchCall leaping session n bits since l → (j ≡ k) × (a ≡ b)
+watch-settled leaping session n bits since l = same-called (watchCall leaping session n bits since l)
 
 pub rest-settled : (session : List ℕ) (used cycles : ℕ) (buffer result : List ℕ) {j k : ℕ} {a b r s : List ℕ}
     → rested j a r ≡ restCall session used cycles buffer result

@@ -1,5 +1,5 @@
-// The night program: IMAGE SESSION N R STATE OUTPUT. It runs a night on the files, prints a line for each slice and one for the night, and has
-// night_commit put the new files in the old ones' places (docs/NIGHT.md).
+// The night program: [--log FILE] [--] IMAGE SESSION N R STATE OUTPUT. It runs a night on the files, prints a line for each slice and one for the
+// night, and has night_commit put the new files in the old ones' places (docs/NIGHT.md).
 use machine::Machine;
 use machine::Power;
 use night_arguments::Number;
@@ -110,7 +110,7 @@ fn tell(end: Op) {
 
 // A night that did not run: STATE.night is removed.
 fn give_up(state_name: &[u8], names: &[u8]) {
-    night_commit::finish(false, state_name, names, b"", b"", b"", b"");
+    night_commit::finish(false, state_name, names, b"", b"", b"", b"", b"");
 }
 
 // A night from a machine, and its files.
@@ -142,6 +142,7 @@ fn pass(
         &machine,
         cabinet::filled(&session[..], night.length),
         cabinet::filled(&output, night.sent),
+        b"",
     );
     match end {
         Op::Placed => line.print(),
@@ -204,29 +205,66 @@ fn run(image_name: &[u8], session_name: &[u8], state_name: &[u8], names: &[u8], 
     }
 }
 
-// A call on files of these names.
-fn call(
+// A call whose names are allowed, but for folders.
+fn call(image_name: &[u8], session_name: &[u8], state_name: &[u8], names: &[u8], terms: Terms) {
+    if night_commit::has_folder(state_name, names) {
+        refuse(32);
+        return;
+    }
+    let op = night_commit::prepare(state_name);
+    match op {
+        Op::Run => run(image_name, session_name, state_name, names, terms),
+        _ => tell(op),
+    }
+}
+
+// The same with a log, whose name is this argument.
+fn call_logged(
+    image_name: &[u8],
+    session_name: &[u8],
+    state_name: &[u8],
+    names: &[u8],
+    log: u8,
+    terms: Terms,
+) {
+    let mut log_name = io::buffer();
+    let n = os::arg(log as usize, &mut log_name);
+    if !night_names::is_further(&log_name[..n], session_name, state_name, names) {
+        refuse(32);
+        return;
+    }
+    let mut buffer = io::buffer();
+    let m = night_names::with_name(names, &log_name[..n], &mut buffer);
+    call(image_name, session_name, state_name, &buffer[..m], terms);
+}
+
+// A call on files of these names, and a log where its argument is no 0.
+fn call_named(
     image_name: &[u8],
     session_name: &[u8],
     state_name: &[u8],
     output_name: &[u8],
+    log: u8,
     terms: Terms,
 ) {
     if !night_names::are_names(image_name, session_name, state_name, output_name) {
         refuse(32);
         return;
     }
-    let mut buffer = io::buffer();
-    let n = night_names::record_names(image_name, output_name, &mut buffer);
-    if night_commit::has_folder(state_name, &buffer[..n]) {
-        refuse(32);
+    let mut names = io::buffer();
+    let n = night_names::record_names(image_name, output_name, &mut names);
+    if log == 0 {
+        call(image_name, session_name, state_name, &names[..n], terms);
         return;
     }
-    let op = night_commit::prepare(state_name);
-    match op {
-        Op::Run => run(image_name, session_name, state_name, &buffer[..n], terms),
-        _ => tell(op),
-    }
+    call_logged(
+        image_name,
+        session_name,
+        state_name,
+        &names[..n],
+        log,
+        terms,
+    );
 }
 
 // The number that an argument is.
@@ -236,13 +274,11 @@ fn number_at(i: usize) -> Number {
     night_arguments::read_number(&text[..n])
 }
 
-fn main() {
-    if os::arg_count() != 7 {
-        refuse(32);
-        return;
-    }
-    let n = number_at(3);
-    let r = number_at(4);
+// The call whose six names begin at this argument.
+fn read_names(first: u8, log: u8) {
+    let at = first as usize;
+    let n = number_at(at + 2);
+    let r = number_at(at + 3);
     let Number::Is(cycles) = n else {
         refuse(32);
         return;
@@ -252,16 +288,55 @@ fn main() {
         return;
     };
     let mut image = io::buffer();
-    let a = os::arg(1, &mut image);
+    let a = os::arg(at, &mut image);
     let mut session = io::buffer();
-    let b = os::arg(2, &mut session);
+    let b = os::arg(at + 1, &mut session);
     let mut state = io::buffer();
-    let c = os::arg(5, &mut state);
+    let c = os::arg(at + 4, &mut state);
     let mut output = io::buffer();
-    let d = os::arg(6, &mut output);
+    let d = os::arg(at + 5, &mut output);
     let terms = Terms {
         n: cycles,
         r: start,
     };
-    call(&image[..a], &session[..b], &state[..c], &output[..d], terms);
+    call_named(
+        &image[..a],
+        &session[..b],
+        &state[..c],
+        &output[..d],
+        log,
+        terms,
+    );
+}
+
+// What an argument is.
+fn kind_at(i: usize) -> u8 {
+    let mut text = io::buffer();
+    let n = os::arg(i, &mut text);
+    night_arguments::kind_of(&text[..n])
+}
+
+// What so many arguments are, the program's own name left out, as far as the buffer goes.
+fn read_kinds(count: usize, kinds: &mut [u8]) -> usize {
+    let mut i = 0usize;
+    while i < kinds.len() {
+        if count <= i + 1 {
+            return i;
+        }
+        kinds[i] = kind_at(i + 1);
+        i = i + 1;
+    }
+    i
+}
+
+fn main() {
+    let mut kinds = [0u8; 33];
+    let n = read_kinds(os::arg_count(), &mut kinds);
+    let mut values = [0u8; 1];
+    let first = night_arguments::read_call(cabinet::filled(&kinds, n), &mut values);
+    if first == 0 {
+        refuse(32);
+        return;
+    }
+    read_names(first, values[0]);
 }

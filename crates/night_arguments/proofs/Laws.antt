@@ -1,16 +1,19 @@
--- The laws of a number in decimal, digit by digit, and of a name with its ending. Assumes nothing.
-use Prim.Native.Nat.{ℕ, _+_, _-_, _*_, _≤_, _<_}
+-- The laws of a number in decimal, digit by digit, of comparing two texts byte by byte, and of a name with its ending. Assumes nothing.
+use Prim.Native.Nat.{ℕ, suc, _+_, _-_, _*_, _≤_, _<_}
 use native.Mathlib.Numerals.{add-one}
 use native.Mathlib.Omega.{arith}
+use mathlib.Core.Bool.{Bool, true, false, _&&_}
 use mathlib.Core.List.{List, [], _∷_, _++_, append-assoc}
 use mathlib.Core.Option.{Option, none, some}
 use mathlib.Core.Path.{_≡_, refl, sym, ap, _∙_}
+use mathlib.Core.Logic.{_≢_}
+use lib.Dec.{eqb}
 use lib.ListN.{length, getD, take, drop, drop-of-length-le, length-append}
 use lib.Seq.{drop-cons, take-length, take-at, take-append-seam}
-use borrow.Author.Tests.{lt-ltb, le-ltb}
+use borrow.Author.Tests.{lt-ltb, le-ltb, eq-eqb, ne-eqb}
 use Rattle.laws.proofs.Conds.{picks, passes}
 use Rattle.io.specs.Counts.{Counts}
-use Rattle.night_arguments.specs.Arguments.{withDigit, numberFrom, numberOf, joinedOf}
+use Rattle.night_arguments.specs.Arguments.{withDigit, numberFrom, numberOf, sameOf, joinedOf}
 
 module _ (v d : ℕ) where
   pub below : d < 48 → none ≡ withDigit v d
@@ -49,6 +52,30 @@ no-text l h = sym (passes _ _ (le-ltb 0 (length l) (omega arith)))
 pub some-text : (l : List ℕ) → 0 < length l → numberOf l ≡ numberFrom (some 0) l
 unfolding numberOf
 some-text l h = picks _ _ (lt-ltb 0 (length l) h)
+
+pub same-length : (a b : List ℕ) → length a ≢ length b → sameOf a b ≡ false
+unfolding sameOf
+same-length [] [] n = absurd (n refl)
+same-length [] (y ∷ ys) n = refl
+same-length (x ∷ xs) [] n = refl
+same-length (x ∷ xs) (y ∷ ys) n = go (eqb x y) (same-length xs ys (λ e. n (ap suc e)))
+  where
+    go : (t : Bool) → sameOf xs ys ≡ false → (t && sameOf xs ys) ≡ false
+    go true e = e
+    go false e = refl
+
+module _ (a b : List ℕ) (i : ℕ) (h : i < length a) (k : i < length b) where
+  pub same-next : getD a i 0 ≡ getD b i 0 → sameOf (drop i a) (drop i b) ≡ sameOf (drop (i + 1) a) (drop (i + 1) b)
+  unfolding sameOf
+  same-next e = rw (add-one, drop-cons a i 0 h, drop-cons b i 0 k, eq-eqb _ _ e)
+
+  pub same-differ : getD a i 0 ≢ getD b i 0 → sameOf (drop i a) (drop i b) ≡ false
+  unfolding sameOf
+  same-differ n = rw (drop-cons a i 0 h, drop-cons b i 0 k, ne-eqb _ _ n)
+
+pub same-end : (a b : List ℕ) (i : ℕ) → length a ≤ i → length b ≤ i → sameOf (drop i a) (drop i b) ≡ true
+unfolding sameOf
+same-end a b i h k = rw (drop-of-length-le a h, drop-of-length-le b k)
 
 module _ (name ending : List ℕ) where
   pub no-room : (room : ℕ) → room < length name + length ending → [] ≡ joinedOf name ending room

@@ -1,9 +1,9 @@
--- A number in decimal, and a name with an ending.
+-- A number in decimal, two texts compared, and a name with an ending.
 use Prim.Native.Nat.{ℕ, _+_, _-_, _*_}
-use mathlib.Core.Bool.{cond}
+use mathlib.Core.Bool.{Bool, true, false, _&&_, cond}
 use mathlib.Core.List.{List, [], _∷_, _++_}
 use mathlib.Core.Option.{Option, none, some}
-use lib.Dec.{ltb}
+use lib.Dec.{eqb, ltb}
 use lib.ListN.{length}
 use Rattle.night_arguments.specs.declared.Number.{Number}
 use Rattle.night_arguments.specs.declared.Number.the-variants.{Is, No}
@@ -30,6 +30,13 @@ numberFrom v (digit ∷ digits) = numberFrom (further v digit) digits
 -- "no empty"
 unfoldable pub numberOf : List ℕ → Option ℕ
 numberOf text = cond (ltb 0 (length text)) (numberFrom (some 0) text) none
+
+-- two texts are the same
+unfoldable pub sameOf : List ℕ → List ℕ → Bool
+sameOf [] [] = true
+sameOf [] (y ∷ ys) = false
+sameOf (x ∷ xs) [] = false
+sameOf (x ∷ xs) (y ∷ ys) = eqb x y && sameOf xs ys
 
 -- a name and then its ending, nothing where there is no room for both
 unfoldable pub joinedOf : List ℕ → List ℕ → ℕ → List ℕ

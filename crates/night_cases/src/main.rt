@@ -1,6 +1,11 @@
-// Refusals and stops of a night, and the edges of reading numbers and joining names. docs/FORMATS.md has the numbers.
+// Refusals and stops of a night, nights with the wake log, and the edges of reading numbers and joining names. docs/FORMATS.md has the
+// numbers, docs/CASES.md works out the nights with the log.
+use boundary::Watch;
+use counts::Cycles;
+use machine::Machine;
 use machine::Power;
 use night_arguments::Number;
+use night_slices::Night;
 use printing::Line;
 
 fn show_number(text: &[u8]) {
@@ -28,9 +33,20 @@ fn show_joined(name: &[u8], ending: &[u8]) {
 // A night of 100 cycles from power-on, with the opcodes at $0100.
 fn show_night(image: &mut [u8], session: &mut [u8], output: &mut [u8], spare: &mut [u8]) {
     let size = session.len();
+    let mut none = [0u8; 0];
     let power = cabinet::power_on(&image[..], 65536);
     match power {
-        Power::On(m) => night_slices::run_night(image, m, session, size, 100, output, spare)
+        Power::On(m) => night_slices::run_night(
+                image,
+                m,
+                session,
+                size,
+                100,
+                Watch::nothing(),
+                output,
+                &mut none,
+                spare,
+            )
             .line()
             .print(),
         Power::WrongImage => Line::empty().text(b"no machine\n").print(),
@@ -83,6 +99,146 @@ fn show_stopped() {
     show_night(&mut full, &mut session, &mut none, &mut room);
 }
 
+// LDS #$00FF, CLI, then WAI and a BRA back to it; NMI and IRQ1 lead to an RTI.
+fn waking() -> [u8; 65536] {
+    let mut image = rom();
+    image[0x0100] = 0x8E;
+    image[0x0102] = 0xFF;
+    image[0x0103] = 0x0E;
+    image[0x0104] = 0x3E;
+    image[0x0105] = 0x20;
+    image[0x0106] = 0xFD;
+    image[0x0110] = 0x3B;
+    image[0xFFF8] = 0x01;
+    image[0xFFF9] = 0x10;
+    image[0xFFFC] = 0x01;
+    image[0xFFFD] = 0x10;
+    image
+}
+
+fn show_bytes(name: &[u8], bytes: &[u8]) {
+    let mut line = Line::empty().text(name);
+    for at in 0..bytes.len() {
+        line = line.byte(bytes[at]);
+    }
+    line.text(b"\n").print();
+}
+
+// A night, the rest of its session, and all of its log.
+fn show_logged(
+    image: &mut [u8],
+    m: Machine,
+    session: &mut [u8],
+    size: usize,
+    n: u32,
+    asked: bool,
+    log: &mut [u8],
+) -> Night {
+    let mut none = [0u8; 0];
+    let mut spare = [0u8; 42];
+    let watch = Watch {
+        log: asked,
+        since: Cycles(0),
+    };
+    let night = night_slices::run_night(
+        image,
+        m,
+        session,
+        size,
+        n,
+        watch,
+        &mut none,
+        log,
+        &mut spare,
+    );
+    night.line().print();
+    show_bytes(b"rest ", cabinet::filled(&session[..], night.length));
+    show_bytes(b"log ", &log[..]);
+    night
+}
+
+// NMI and IRQ1 at 100, IRQ1 high at 130, NMI at 1,000,000,007 and at 2,000,000,000; N is 1,000,000,100. What is left of N is run with
+// another log.
+fn show_waking(asked: bool, log: &mut [u8], further: &mut [u8]) {
+    let mut image = waking();
+    let mut session = [
+        6u8,
+        0,
+        4,
+        0,
+        0x64,
+        0,
+        0,
+        0,
+        7,
+        0,
+        3,
+        0,
+        0x64,
+        0,
+        0,
+        0,
+        0,
+        7,
+        0,
+        3,
+        0,
+        0x82,
+        0,
+        0,
+        0,
+        1,
+        6,
+        0,
+        4,
+        0,
+        0x07,
+        0xCA,
+        0x9A,
+        0x3B,
+        6,
+        0,
+        4,
+        0,
+        0x00,
+        0x94,
+        0x35,
+        0x77,
+    ];
+    let power = cabinet::power_on(&image, 65536);
+    match power {
+        Power::On(m) => {
+            let night = show_logged(&mut image, m, &mut session, 42, 1000000100, asked, log);
+            if night.left > 0 {
+                let left = night.machine;
+                show_logged(
+                    &mut image,
+                    left,
+                    &mut session,
+                    night.length,
+                    night.left,
+                    asked,
+                    further,
+                );
+            }
+        }
+        Power::WrongImage => Line::empty().text(b"no machine\n").print(),
+        Power::WrongStart => Line::empty().text(b"no machine\n").print(),
+    }
+}
+
+fn show_logs() {
+    let mut further = [0xEEu8; 16];
+    let mut more = [0xEEu8; 32];
+    show_waking(true, &mut more, &mut further);
+    let mut enough = [0xEEu8; 24];
+    show_waking(true, &mut enough, &mut further);
+    let mut short = [0xEEu8; 23];
+    show_waking(true, &mut short, &mut further);
+    let mut unused = [0xEEu8; 8];
+    show_waking(false, &mut unused, &mut further);
+}
+
 fn main() {
     show_number(b"");
     show_number(b"0");
@@ -96,4 +252,5 @@ fn main() {
     show_joined(b"abcd", b".done");
     show_refused();
     show_stopped();
+    show_logs();
 }

@@ -21,32 +21,19 @@ fn stands(name: &[u8], ending: &[u8]) -> bool {
     true
 }
 
-// The place of a file, by its number (`Op` of night_steps).
-fn place_of(i: u8, state: &[u8], names: &[u8], buffer: &mut [u8]) -> usize
-    ensures { λ r. ⌜ Counts r (now (buffer .exit)) ⌝ }
-{
-    match i {
-        0 => night_names::image_place(state, names, buffer),
-        1 => night_arguments::joined(state, b"", buffer),
-        2 => night_arguments::joined(state, b".rest", buffer),
-        3 => night_names::output_place(state, names, buffer),
-        _ => night_arguments::joined(state, b".names", buffer),
-    }
-}
-
 // Where the file stands in STATE.night/ or STATE.done/.
 fn work_of(i: u8, folder: &[u8], state: &[u8], names: &[u8], buffer: &mut [u8]) -> usize
     ensures { λ r. ⌜ Counts r (now (buffer .exit)) ⌝ }
 {
     let mut place = io::buffer();
-    let n = place_of(i, state, names, &mut place);
+    let n = night_names::place_of(i, state, names, &mut place);
     night_names::work_place(state, folder, &place[..n], buffer)
 }
 
 // A file's place is a folder, or cannot be told not to be: a path through a file is answered with ENOTDIR.
 fn is_folder(i: u8, state: &[u8], names: &[u8]) -> bool {
     let mut place = io::buffer();
-    let n = place_of(i, state, names, &mut place);
+    let n = night_names::place_of(i, state, names, &mut place);
     let fd = open_with(&place[..n], b"/.");
     if fd < 0 {
         let error = os::errno();
@@ -56,12 +43,17 @@ fn is_folder(i: u8, state: &[u8], names: &[u8]) -> bool {
     true
 }
 
-// Whether one of the five places of a night's files is a folder.
+// Whether one of the places of a night's files is a folder.
 pub fn has_folder(state: &[u8], names: &[u8]) -> bool {
-    let files = is_folder(0, state, names)
-        | is_folder(1, state, names)
-        | is_folder(2, state, names);
-    files | is_folder(3, state, names) | is_folder(4, state, names)
+    let files = night_names::files(names);
+    let mut i = 0u8;
+    while i < files {
+        if is_folder(i, state, names) {
+            return true;
+        }
+        i = i + 1;
+    }
+    false
 }
 
 // What an open file or folder holds has reached the device, and it is closed.
@@ -143,7 +135,7 @@ fn put_file(i: u8, state: &[u8], names: &[u8]) -> bool {
     let mut path = io::buffer();
     let n = work_of(i, b".done/", state, names, &mut path);
     let mut place = io::buffer();
-    let m = place_of(i, state, names, &mut place);
+    let m = night_names::place_of(i, state, names, &mut place);
     if os::rename(&path[..n], &place[..m]) == 0 {
         return true;
     }
@@ -176,10 +168,11 @@ fn carry_out(op: Op, state: &[u8], names: &[u8]) -> bool {
 pub fn carry(first: Op, own: bool, state: &[u8], names: &[u8]) -> Op
     ensures { λ r. ⌜ waitsOf r ≡ true ⌝ }
 {
+    let files = night_names::files(names);
     let mut op = first;
     while !night_steps::waits(op) {
         let ok = carry_out(op, state, names);
-        op = night_steps::next(op, ok, own);
+        op = night_steps::next(files, op, ok, own);
     }
     op
 }
@@ -236,15 +229,16 @@ pub fn prepare(state: &[u8]) -> Op
     let mut names = io::buffer();
     let n = read_names(state, &mut names);
     let known = night_names::are_recorded(&names[..n]);
+    let files = night_names::files(&names[..n]);
     carry(
-        night_steps::next(op, known, false),
+        night_steps::next(files, op, known, false),
         false,
         state,
         &names[..n],
     )
 }
 
-// A file is made in STATE.night.
+// A file is made in STATE.night, by its number (`Op` of night_steps).
 fn make_file(
     op: Op,
     state: &[u8],
@@ -253,6 +247,7 @@ fn make_file(
     machine: &[u8],
     rest: &[u8],
     output: &[u8],
+    log: &[u8],
 ) -> bool {
     let Op::Make(i) = op else {
         return false;
@@ -262,11 +257,13 @@ fn make_file(
         1 => make(i, state, names, machine),
         2 => make(i, state, names, rest),
         3 => make(i, state, names, output),
-        _ => make(i, state, names, names),
+        4 => make(i, state, names, names),
+        _ => make(i, state, names, log),
     }
 }
 
-// The end of a call whose night has run: its files are made, committed and put in place; or STATE.night is removed.
+// The end of a call whose night has run: its files are made, committed and put in place; or STATE.night is removed. The log is a file of the night
+// where `names` has its name.
 pub fn finish(
     ran: bool,
     state: &[u8],
@@ -275,13 +272,15 @@ pub fn finish(
     machine: &[u8],
     rest: &[u8],
     output: &[u8],
+    log: &[u8],
 ) -> Op
     ensures { λ r. ⌜ waitsOf r ≡ true ⌝ }
 {
-    let mut op = night_steps::next(Op::Run, ran, true);
+    let files = night_names::files(names);
+    let mut op = night_steps::next(files, Op::Run, ran, true);
     while night_steps::is_make(op) {
-        let ok = make_file(op, state, names, image, machine, rest, output);
-        op = night_steps::next(op, ok, true);
+        let ok = make_file(op, state, names, image, machine, rest, output, log);
+        op = night_steps::next(files, op, ok, true);
     }
     carry(op, true, state, names)
 }

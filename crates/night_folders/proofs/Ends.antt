@@ -21,7 +21,7 @@ pub start-sized : (n : ℕ) → Sized n (newcomers n)
 start-sized zero = tt
 start-sized (suc n) = start-sized n
 
-changes-sized : (n : ℕ) (c : Bool → File → File) (m : ℕ → Bool) (fs : List File) → Sized n fs → Sized n (changes c m fs)
+pub changes-sized : (n : ℕ) (c : Bool → File → File) (m : ℕ → Bool) (fs : List File) → Sized n fs → Sized n (changes c m fs)
 changes-sized zero c m [] s = s
 changes-sized zero c m (f ∷ fs) s = absurd s
 changes-sized (suc n) c m [] s = s
@@ -39,16 +39,16 @@ after-sized n [] w s = s
 after-sized n (a ∷ as′) w s = after-sized n as′ (step-of a w) (step-sized n a w s)
 
 -- all files are at one step; the first i are at t and the others at s
-abbrev steps : Step → List File → Bool
+abbrev pub steps : Step → List File → Bool
 steps s [] = true
 steps s (f ∷ fs) = isStep s f && steps s fs
 
-abbrev halfway : ℕ → Step → Step → List File → Bool
+abbrev pub halfway : ℕ → Step → Step → List File → Bool
 halfway zero s t fs = steps s fs
 halfway (suc i) s t [] = true
 halfway (suc i) s t (f ∷ fs) = isStep t f && halfway i s t fs
 
-all-way : (n : ℕ) (s t : Step) (fs : List File) → Sized n fs → T (halfway n s t fs) → T (steps t fs)
+pub all-way : (n : ℕ) (s t : Step) (fs : List File) → Sized n fs → T (halfway n s t fs) → T (steps t fs)
 all-way zero s t [] z h = tt
 all-way zero s t (f ∷ fs) z h = absurd z
 all-way (suc n) s t [] z h = tt
@@ -68,7 +68,7 @@ up-zero zero = refl
 up-zero (suc n) = up-suc n 0 ∙ ap suc (up-zero n)
 
 -- what holds where an allowed event is done holds after the step
-done-step : (Q : Disk → Type 0) (b : Bool) (x y : Disk) → T b → Q x → Q (cond b x y)
+pub done-step : (Q : Disk → Type 0) (b : Bool) (x y : Disk) → T b → Q x → Q (cond b x y)
 done-step Q true x y t q = q
 done-step Q false x y t q = absurd t
 

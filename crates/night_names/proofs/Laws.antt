@@ -1,44 +1,18 @@
--- The laws of comparing two texts byte by byte, and of a name's last part. Assumes nothing.
-use Prim.Native.Nat.{ℕ, suc, _+_, _-_, _≤_, _<_}
+-- The laws of a name's last part, and of the names and places that are joined. Assumes nothing.
+use Prim.Native.Nat.{ℕ, _+_, _-_, _≤_, _<_}
 use native.Mathlib.Numerals.{add-one}
 use native.Mathlib.Omega.{arith}
-use mathlib.Core.Bool.{Bool, true, false, _&&_}
 use mathlib.Core.List.{List, [], _∷_}
-use mathlib.Core.Path.{_≡_, refl, sym, ap, _∙_}
 use mathlib.Core.Logic.{_≢_}
+use mathlib.Core.Path.{_≡_, refl, sym, ap, _∙_}
 use lib.Dec.{eqb}
 use lib.ListN.{length, getD, take, drop, drop-of-length-le}
 use lib.Seq.{drop-cons}
-use borrow.Author.Tests.{eq-eqb, ne-eqb}
 use Rattle.laws.proofs.Conds.{cases}
 use Rattle.laws.proofs.Lists.{take-rest}
 use Rattle.printing.specs.Printing.{ascii}
 use Rattle.night_arguments.specs.Arguments.{joinedOf}
-use Rattle.night_names.specs.Names.{sameOf, beginsAt, lastFrom, lastAt, outputPlace, imagePlace, namesOf, workOf}
-
-pub same-length : (a b : List ℕ) → length a ≢ length b → sameOf a b ≡ false
-unfolding sameOf
-same-length [] [] n = absurd (n refl)
-same-length [] (y ∷ ys) n = refl
-same-length (x ∷ xs) [] n = refl
-same-length (x ∷ xs) (y ∷ ys) n = go (eqb x y) (same-length xs ys (λ e. n (ap suc e)))
-  where
-    go : (t : Bool) → sameOf xs ys ≡ false → (t && sameOf xs ys) ≡ false
-    go true e = e
-    go false e = refl
-
-module _ (a b : List ℕ) (i : ℕ) (h : i < length a) (k : i < length b) where
-  pub same-next : getD a i 0 ≡ getD b i 0 → sameOf (drop i a) (drop i b) ≡ sameOf (drop (i + 1) a) (drop (i + 1) b)
-  unfolding sameOf
-  same-next e = rw (add-one, drop-cons a i 0 h, drop-cons b i 0 k, eq-eqb _ _ e)
-
-  pub same-differ : getD a i 0 ≢ getD b i 0 → sameOf (drop i a) (drop i b) ≡ false
-  unfolding sameOf
-  same-differ n = rw (drop-cons a i 0 h, drop-cons b i 0 k, ne-eqb _ _ n)
-
-pub same-end : (a b : List ℕ) (i : ℕ) → length a ≤ i → length b ≤ i → sameOf (drop i a) (drop i b) ≡ true
-unfolding sameOf
-same-end a b i h k = rw (drop-of-length-le a h, drop-of-length-le b k)
+use Rattle.night_names.specs.Names.{beginsAt, lastFrom, lastAt, withName, namesOf, nameAt, namedPlace, placeOf, workOf}
 
 pub last-next : (l : List ℕ) (i at : ℕ) → i < length l → lastFrom i at (drop i l) ≡ lastFrom (i + 1) (beginsAt (getD l i 0) (i + 1) at) (drop (i + 1) l)
 unfolding lastFrom
@@ -57,23 +31,25 @@ pub begins-within : (byte behind at : ℕ) → at ≤ behind → beginsAt byte b
 begins-within byte behind at h = cases (λ (k : ℕ). k ≤ behind) (eqb byte 47) (λ e. omega arith) (λ e. h)
 
 -- the names of a night, and the places by them, as the code has them: a part from a place on is all that follows it
-module _ (state names : List ℕ) (room : ℕ) {f a : ℕ} (e : f ≡ lastAt state) (g : a ≡ lastAt names) where
-  pub output-is : joinedOf (take f state) (take (length names - a) (drop a names)) room ≡ outputPlace state names room
-  unfolding outputPlace
-  output-is = rw (e, g, take-rest (lastAt names) names)
+pub named-is : (k : ℕ) (state names name : List ℕ) (room : ℕ) {f : ℕ} → f ≡ lastAt state → name ≡ nameAt k names
+    → joinedOf (take f state) name room ≡ namedPlace k state names room
+unfolding namedPlace
+named-is k state names name room e h = rw (e, h)
 
-  pub image-is : {k : ℕ} → k ≡ a - 1 → joinedOf (take f state) (take k names) room ≡ imagePlace state names room
-  unfolding imagePlace
-  image-is h = rw (h, e, g)
+pub with-is : (names file : List ℕ) (room : ℕ) {a size : ℕ} {front : List ℕ} → a ≡ lastAt file → 4096 ≡ size → front ≡ joinedOf names (ascii "/") size
+    → joinedOf front (take (length file - a) (drop a file)) room ≡ withName names file room
+unfolding withName
+with-is names file room e s h = rw (h, ← s, e, take-rest (lastAt file) file)
 
-pub names-is : (image output : List ℕ) (room : ℕ) {a b size : ℕ} {front : List ℕ} → a ≡ lastAt image → b ≡ lastAt output → 4096 ≡ size
-    → front ≡ joinedOf (take (length image - a) (drop a image)) (ascii "/") size
-    → joinedOf front (take (length output - b) (drop b output)) room ≡ namesOf image output room
+pub names-is : (image output : List ℕ) (room : ℕ) {a : ℕ} → a ≡ lastAt image → withName (take (length image - a) (drop a image)) output room ≡ namesOf image output room
 unfolding namesOf
-names-is image output room e g s h = rw (h, ← s, e, g, take-rest (lastAt image) image, take-rest (lastAt output) output)
+names-is image output room e = rw (e, take-rest (lastAt image) image)
 
 pub work-is : (state folder place : List ℕ) (room : ℕ) {a size : ℕ} {front : List ℕ} → a ≡ lastAt place → 4096 ≡ size
     → front ≡ joinedOf state folder size
     → joinedOf front (take (length place - a) (drop a place)) room ≡ workOf state folder place room
 unfolding workOf
 work-is state folder place room e s h = rw (h, ← s, e, take-rest (lastAt place) place)
+
+pub last-file : (i : ℕ) → i ≤ 4 → i ≢ 0 → i ≢ 1 → i ≢ 2 → i ≢ 3 → i ≡ 4
+last-file i h a b c d = omega arith

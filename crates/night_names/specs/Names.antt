@@ -3,16 +3,9 @@ use Prim.Native.Nat.{ℕ, _+_, _-_}
 use mathlib.Core.Bool.{Bool, true, false, not, _&&_, _||_, cond}
 use mathlib.Core.List.{List, [], _∷_}
 use lib.Dec.{eqb, ltb, leb}
-use lib.ListN.{length, take, drop}
+use lib.ListN.{length, take, drop, getD}
 use Rattle.printing.specs.Printing.{ascii}
-use Rattle.night_arguments.specs.Arguments.{joinedOf}
-
--- two texts are the same
-unfoldable pub sameOf : List ℕ → List ℕ → Bool
-sameOf [] [] = true
-sameOf [] (y ∷ ys) = false
-sameOf (x ∷ xs) [] = false
-sameOf (x ∷ xs) (y ∷ ys) = eqb x y && sameOf xs ys
+use Rattle.night_arguments.specs.Arguments.{sameOf, joinedOf}
 
 -- where a name's last part begins, after its last `/` (47): i bytes are looked at, and it begins at `at` as far as these tell
 abbrev pub beginsAt : ℕ → ℕ → ℕ → ℕ
@@ -62,24 +55,57 @@ areNames image session state output =
     (((((((isPlace image && isPlace state) && isPlace output) && isBeside image state) && isBeside output state)
     && not (isOfState image state)) && not (isOfState output state)) && not (sameOf image output)) && isRead session image state output
 
--- the names that a night commits along: the last parts of IMAGE and OUTPUT, with a `/` between them
+-- a text cut at each `/`: its parts
+abbrev pub begun : ℕ → List (List ℕ) → List (List ℕ)
+begun c [] = (c ∷ []) ∷ []
+begun c (part ∷ parts) = (c ∷ part) ∷ parts
+
+unfoldable pub partsOf : List ℕ → List (List ℕ)
+partsOf [] = [] ∷ []
+partsOf (c ∷ cs) = cond (eqb c 47) ([] ∷ partsOf cs) (begun c (partsOf cs))
+
+-- the names that a night commits along: the last parts of IMAGE and OUTPUT, with a `/` between them; and after another `/` that of each further file
+unfoldable pub withName : List ℕ → List ℕ → ℕ → List ℕ
+withName names file room = joinedOf (joinedOf names (ascii "/") 4096) (lastOf file) room
+
 unfoldable pub namesOf : List ℕ → List ℕ → ℕ → List ℕ
-namesOf image output room = joinedOf (joinedOf (lastOf image) (ascii "/") 4096) (lastOf output) room
+namesOf image output room = withName (lastOf image) output room
 
--- what stands before the last `/`
-abbrev pub imageIn : List ℕ → List ℕ
-imageIn names = take (lastAt names - 1) names
+-- the name with this number, from 0
+unfoldable pub nameAt : ℕ → List ℕ → List ℕ
+nameAt k names = getD (partsOf names) k []
 
--- a text is two names with a `/` between them, and has no other
+-- a night has three files more than names: state, rest and names; 255 where they are too many to be numbered by a byte
+unfoldable pub filesOf : List ℕ → ℕ
+filesOf names = cond (ltb 251 (length (partsOf names))) 255 (length (partsOf names) + 3)
+
+abbrev pub noneEmpty : List (List ℕ) → Bool
+noneEmpty [] = true
+noneEmpty (part ∷ parts) = ltb 0 (length part) && noneEmpty parts
+
+-- a text is two names or more, none of them empty
 unfoldable pub areRecorded : List ℕ → Bool
-areRecorded names = (ltb 0 (lastAt names - 1) && ltb (lastAt names) (length names)) && eqb (lastAt (imageIn names)) 0
+areRecorded names = (leb 5 (filesOf names) && leb (filesOf names) 254) && noneEmpty (partsOf names)
 
--- IMAGE and OUTPUT by these names, in STATE's folder
-unfoldable pub imagePlace : List ℕ → List ℕ → ℕ → List ℕ
-imagePlace state names room = joinedOf (folderOf state) (imageIn names) room
+abbrev pub isAmong : List ℕ → List (List ℕ) → Bool
+isAmong name [] = false
+isAmong name (part ∷ parts) = sameOf name part || isAmong name parts
 
-unfoldable pub outputPlace : List ℕ → List ℕ → ℕ → List ℕ
-outputPlace state names room = joinedOf (folderOf state) (lastOf names) room
+-- a further file of the night: a place beside STATE, none of STATE's, nor SESSION, nor one of those that the night has
+unfoldable pub isFurther : List ℕ → List ℕ → List ℕ → List ℕ → Bool
+isFurther file session state names =
+    (((isPlace file && isBeside file state) && not (isOfState file state)) && not (sameOf file session)) && not (isAmong (lastOf file) (partsOf names))
+
+-- a file by its name, in STATE's folder
+unfoldable pub namedPlace : ℕ → List ℕ → List ℕ → ℕ → List ℕ
+namedPlace k state names room = joinedOf (folderOf state) (nameAt k names) room
+
+-- the places of a night's files, by their numbers: 0 image, 1 state, 2 rest, 3 output, 4 names, and from 5 on the further files
+unfoldable pub placeOf : ℕ → List ℕ → List ℕ → ℕ → List ℕ
+placeOf i state names room =
+    cond (ltb 4 i) (namedPlace (i - 3) state names room)
+    (getD (namedPlace 0 state names room ∷ joinedOf state [] room ∷ joinedOf state (ascii ".rest") room ∷ namedPlace 1 state names room
+    ∷ joinedOf state (ascii ".names") room ∷ []) i [])
 
 -- where a file stands until it is put at its place: in STATE.night/, after the commit in STATE.done/, under the last part of its place. So no
 -- rename puts it at another place, also by a call that has the names of an earlier night.

@@ -1,28 +1,13 @@
-// The names of a night's files: which four names a call may have, and the two names that a night commits along, by which a later call can put its
-// files in place (docs/NIGHT.md).
-ghost use Prim.Native.Nat.{_-_, _≤_};
+// The names of a night's files: which names a call may have, and those that a night commits along, by which a later call can put its files in
+// place (docs/NIGHT.md).
+use night_arguments::same;
+ghost use Prim.Native.Nat.{_+_, _-_, _≤_};
+ghost use mathlib.Core.List.{[]};
 ghost use mathlib.Core.Path.{_≡_};
-ghost use lib.ListN.{length, take};
+ghost use lib.ListN.{length, take, drop, getD};
 ghost use Rattle.io.specs.Counts.{Counts};
-ghost use Rattle.night_names.specs.Names.{sameOf, beginsAt, lastAt, isPlace, isBeside, isWith, isOfState, isRead, areNames};
-ghost use Rattle.night_names.specs.Names.{namesOf, areRecorded, imagePlace, outputPlace, workOf};
-
-// Whether two texts are the same.
-fn same(a: &[u8], b: &[u8]) -> bool
-    ensures { λ r. ⌜ r ≡ sameOf (now (a .entry)) (now (b .entry)) ⌝ }
-{
-    if a.len() != b.len() {
-        return false;
-    }
-    let mut i = 0usize;
-    while i < a.len() {
-        if a[i] != b[i] {
-            return false;
-        }
-        i = i + 1;
-    }
-    true
-}
+ghost use Rattle.night_names.specs.Names.{beginsAt, lastAt, isPlace, isBeside, isWith, isOfState, isRead, areNames, partsOf, withName, namesOf, nameAt};
+ghost use Rattle.night_names.specs.Names.{filesOf, noneEmpty, areRecorded, isAmong, isFurther, namedPlace, placeOf, workOf};
 
 // Where a name's last part begins, once a byte more was looked at: behind it if it is a `/`.
 fn begins(byte: u8, behind: usize, at: usize) -> usize
@@ -122,57 +107,172 @@ pub fn are_names(image: &[u8], session: &[u8], state: &[u8], output: &[u8]) -> b
         & read
 }
 
-// The two names that a night commits along: the last parts of IMAGE and OUTPUT, with a `/` between them.
+// The names that a night commits along, and the last part of a further file's after them.
+pub fn with_name(names: &[u8], file: &[u8], buffer: &mut [u8]) -> usize
+    ensures { λ r. ⌜ Counts r (now (buffer .exit)) ⌝ }
+    ensures { λ r. ⌜ take r (now (buffer .exit)) ≡ withName (now (names .entry)) (now (file .entry)) (length (now (buffer .entry))) ⌝ }
+{
+    let at = last_at(file);
+    let mut front = io::buffer();
+    let n = night_arguments::joined(names, b"/", &mut front);
+    night_arguments::joined(&front[..n], &file[at..], buffer)
+}
+
+// The names of a night without further files: the last parts of IMAGE and OUTPUT.
 pub fn record_names(image: &[u8], output: &[u8], buffer: &mut [u8]) -> usize
     ensures { λ r. ⌜ Counts r (now (buffer .exit)) ⌝ }
     ensures { λ r. ⌜ take r (now (buffer .exit)) ≡ namesOf (now (image .entry)) (now (output .entry)) (length (now (buffer .entry))) ⌝ }
 {
-    let a = last_at(image);
-    let b = last_at(output);
-    let mut front = io::buffer();
-    let n = night_arguments::joined(&image[a..], b"/", &mut front);
-    night_arguments::joined(&front[..n], &output[b..], buffer)
+    let at = last_at(image);
+    with_name(&image[at..], output, buffer)
 }
 
-// One less, or 0.
-fn before_slash(at: usize) -> usize
-    ensures { λ r. ⌜ r ≤ at ⌝ }
-    ensures { λ r. ⌜ r ≡ at - 1 ⌝ }
+// How many `/` the names have between them.
+fn slashes(names: &[u8]) -> usize
+    ensures { λ r. ⌜ r ≤ length (now (names .entry)) ⌝ }
+    ensures { λ r. ⌜ length (partsOf (now (names .entry))) ≡ r + 1 ⌝ }
 {
-    if at == 0 {
-        return 0;
+    let mut n = 0usize;
+    let mut i = 0usize;
+    while i < names.len() {
+        if names[i] == 47 {
+            n = n + 1;
+        }
+        i = i + 1;
     }
-    at - 1
+    n
 }
 
-// Whether a text is two names with a `/` between them.
+// How many files a night with these names has; 255 where they are too many.
+pub fn files(names: &[u8]) -> u8
+    ensures { λ r. ⌜ r ≡ filesOf (now (names .entry)) ⌝ }
+{
+    let n = slashes(names);
+    if 250 < n {
+        return 255;
+    }
+    (n + 4) as u8
+}
+
+// Whether each of the names has a byte.
+fn none_empty(names: &[u8]) -> bool
+    ensures { λ r. ⌜ r ≡ noneEmpty (partsOf (now (names .entry))) ⌝ }
+{
+    let mut begins = true;
+    let mut i = 0usize;
+    while i < names.len() {
+        let ends = names[i] == 47;
+        if begins & ends {
+            return false;
+        }
+        begins = ends;
+        i = i + 1;
+    }
+    !begins
+}
+
+// Whether a text is two names or more, with a `/` between them.
 pub fn are_recorded(names: &[u8]) -> bool
     ensures { λ r. ⌜ r ≡ areRecorded (now (names .entry)) ⌝ }
 {
-    let at = last_at(names);
-    let end = before_slash(at);
-    let inner = last_at(&names[..end]);
-    (0 < end) & (at < names.len()) & (inner == 0)
+    let n = files(names);
+    let whole = none_empty(names);
+    (5 <= n) & (n <= 254) & whole
 }
 
-// IMAGE by the names of a night: the first of them, in STATE's folder.
-pub fn image_place(state: &[u8], names: &[u8], buffer: &mut [u8]) -> usize
-    ensures { λ r. ⌜ Counts r (now (buffer .exit)) ⌝ }
-    ensures { λ r. ⌜ take r (now (buffer .exit)) ≡ imagePlace (now (state .entry)) (now (names .entry)) (length (now (buffer .entry))) ⌝ }
+// Where the name with this number begins.
+fn name_begins(k: usize, names: &[u8]) -> usize
+    ensures { λ r. ⌜ r ≤ length (now (names .entry)) ⌝ }
+    ensures { λ r. ⌜ nameAt k (now (names .entry)) ≡ nameAt 0 (drop r (now (names .entry))) ⌝ }
 {
-    let folder = last_at(state);
-    let end = before_slash(last_at(names));
-    night_arguments::joined(&state[..folder], &names[..end], buffer)
+    let mut left = k;
+    let mut i = 0usize;
+    while i < names.len() {
+        if left == 0 {
+            return i;
+        }
+        if names[i] == 47 {
+            left = left - 1;
+        }
+        i = i + 1;
+    }
+    i
 }
 
-// OUTPUT by the names of a night: the second of them, in STATE's folder.
-pub fn output_place(state: &[u8], names: &[u8], buffer: &mut [u8]) -> usize
+// The first of the names.
+fn first_name(names: &[u8]) -> &[u8]
+    ensures { λ r. ⌜ now r ≡ nameAt 0 (now (names .entry)) ⌝ }
+{
+    let mut n = 0usize;
+    while n < names.len() {
+        if names[n] == 47 {
+            return &names[..n];
+        }
+        n = n + 1;
+    }
+    names
+}
+
+// The name with this number.
+fn name_at(k: usize, names: &[u8]) -> &[u8]
+    ensures { λ r. ⌜ now r ≡ nameAt k (now (names .entry)) ⌝ }
+{
+    let at = name_begins(k, names);
+    first_name(&names[at..])
+}
+
+// Whether a name is one of the names.
+fn is_among(name: &[u8], names: &[u8]) -> bool
+    ensures { λ r. ⌜ r ≡ isAmong (now (name .entry)) (partsOf (now (names .entry))) ⌝ }
+{
+    let n = slashes(names);
+    let mut k = 0usize;
+    while k <= n {
+        if same(name, name_at(k, names)) {
+            return true;
+        }
+        k = k + 1;
+    }
+    false
+}
+
+// Whether a night may have this further file.
+pub fn is_further(file: &[u8], session: &[u8], state: &[u8], names: &[u8]) -> bool
+    ensures { λ r. ⌜ r ≡ isFurther (now (file .entry)) (now (session .entry)) (now (state .entry)) (now (names .entry)) ⌝ }
+{
+    let at = last_at(file);
+    let place = is_place(file);
+    let beside = is_beside(file, state);
+    let of_state = is_of_state(file, state);
+    let read = same(file, session);
+    let among = is_among(&file[at..], names);
+    place & beside & !of_state & !read & !among
+}
+
+// The place of the file that has the name with this number.
+fn named_place(k: usize, state: &[u8], names: &[u8], buffer: &mut [u8]) -> usize
     ensures { λ r. ⌜ Counts r (now (buffer .exit)) ⌝ }
-    ensures { λ r. ⌜ take r (now (buffer .exit)) ≡ outputPlace (now (state .entry)) (now (names .entry)) (length (now (buffer .entry))) ⌝ }
+    ensures { λ r. ⌜ take r (now (buffer .exit)) ≡ namedPlace k (now (state .entry)) (now (names .entry)) (length (now (buffer .entry))) ⌝ }
 {
     let folder = last_at(state);
-    let at = last_at(names);
-    night_arguments::joined(&state[..folder], &names[at..], buffer)
+    night_arguments::joined(&state[..folder], name_at(k, names), buffer)
+}
+
+// The place of a night's file, by its number.
+pub fn place_of(i: u8, state: &[u8], names: &[u8], buffer: &mut [u8]) -> usize
+    ensures { λ r. ⌜ Counts r (now (buffer .exit)) ⌝ }
+    ensures { λ r. ⌜ take r (now (buffer .exit)) ≡ placeOf i (now (state .entry)) (now (names .entry)) (length (now (buffer .entry))) ⌝ }
+{
+    if 4 < i {
+        return named_place((i - 3) as usize, state, names, buffer);
+    }
+    match i {
+        0 => named_place(0, state, names, buffer),
+        1 => night_arguments::joined(state, b"", buffer),
+        2 => night_arguments::joined(state, b".rest", buffer),
+        3 => named_place(1, state, names, buffer),
+        _ => night_arguments::joined(state, b".names", buffer),
+    }
 }
 
 // Where the file of a place stands in STATE.night/ or STATE.done/.

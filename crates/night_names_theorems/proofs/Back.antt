@@ -1,19 +1,21 @@
--- By the names that a night commits along, a recovery that has the same STATE folder finds that night's IMAGE and OUTPUT; and what stands in
--- STATE.done/ for one place is put at no other. Assumes nothing.
-use Prim.Native.Nat.{ℕ, _+_, _-_, _≤_, _<_}
+-- By the names that a night commits along, a recovery that has the same STATE folder finds that night's IMAGE, OUTPUT and further files; and what
+-- stands in STATE.done/ for one place is put at no other. Assumes nothing.
+use Prim.Native.Nat.{ℕ, zero, suc, _+_, _-_, _≤_, _<_}
+use native.Mathlib.Nat.{le-of-suc-le-suc}
+use native.Mathlib.Numerals.{add-one}
 use native.Mathlib.Omega.{arith}
-use mathlib.Core.Bool.{true, _&&_}
+use mathlib.Core.Bool.{Bool, true, _&&_}
 use mathlib.Core.List.{List, [], _∷_, _++_}
 use mathlib.Core.Path.{_≡_, refl, sym, ap, _∙_}
 use lib.Dec.{ltb, leb}
-use lib.ListN.{length, drop, length-append, length-drop, take-append-drop}
+use lib.ListN.{length, drop, getD, length-append, length-drop, take-append-drop}
 use lib.Seq.{length-take-le, drop-at}
-use borrow.Author.Tests.{le-ltb, lt-ltb, ltb-true, leb-true}
+use borrow.Author.Tests.{le-ltb, lt-ltb, le-leb, ltb-true, leb-true}
 use Rattle.laws.proofs.Bools.{both}
-use Rattle.laws.proofs.Conds.{passes}
+use Rattle.laws.proofs.Conds.{picks, passes}
 use Rattle.night_arguments.specs.Arguments.{joinedOf}
-use Rattle.night_names.specs.Names.{lastAt, folderOf, lastOf, imageIn, isPlace, isBeside, namesOf, areRecorded, imagePlace, outputPlace, workOf}
-use Rattle.night_names_theorems.proofs.Parts.{same-sound, last-plain, last-within, last-zero, glued, last-glued, last-of-glued, first-of-glued}
+use Rattle.night_names.specs.Names.{lastAt, folderOf, lastOf, isPlace, isBeside, partsOf, withName, namesOf, nameAt, filesOf, noneEmpty, areRecorded, namedPlace, placeOf, workOf}
+use Rattle.night_names_theorems.proofs.Parts.{same-sound, last-plain, last-within, glued, cut-joined, uncut}
 
 joins : (a b : List ℕ) (room : ℕ) → length a + length b ≤ room → joinedOf a b room ≡ a ++ b
 unfolding joinedOf
@@ -41,53 +43,114 @@ whole name state h q =
     ap (λ (f : List ℕ). joinedOf f (lastOf name) 4096) (sym (same-sound (folderOf name) (folderOf state) q))
     ∙ joins (folderOf name) (lastOf name) 4096 (omega arith) ∙ take-append-drop (lastAt name) name
 
-module _ (image output : List ℕ) (p : isPlace image ≡ true) (q : isPlace output ≡ true) where
-  recorded : namesOf image output 4096 ≡ lastOf image ++ 47 ∷ lastOf output
-  unfolding namesOf
-  recorded =
-      let s = sized image p in
-      let t = sized output q in
-      let k = part-sized image p in
-      let l = part-sized output q in
-      let m = length-append (lastOf image) (47 ∷ []) in
-      let x = s .2 in
-      let y = t .2 in
-      ap (λ (f : List ℕ). joinedOf f (lastOf output) 4096) (joins (lastOf image) (47 ∷ []) 4096 (omega arith))
-      ∙ joins (lastOf image ++ 47 ∷ []) (lastOf output) 4096 (omega arith) ∙ sym (glued (lastOf image) (lastOf output))
+-- The names that a night commits along tell its files: they are the last parts of these, in this order, and each is a place. First IMAGE and OUTPUT,
+-- then the further files.
+abbrev pub lasts : List (List ℕ) → List (List ℕ)
+lasts [] = []
+lasts (f ∷ fs) = lastOf f ∷ lasts fs
 
-  pub image-back : (state : List ℕ) → isBeside image state ≡ true → imagePlace state (namesOf image output 4096) 4096 ≡ image
-  unfolding imagePlace
-  image-back state e =
-      ap (λ (n : List ℕ). joinedOf (folderOf state) n 4096) (ap imageIn recorded ∙ first-of-glued (lastOf image) (lastOf output) (last-plain output))
-      ∙ whole image state (let s = sized image p .1 in omega arith) e
+abbrev pub Places : List (List ℕ) → Type 0
+Places [] = Unit
+Places (f ∷ fs) = (isPlace f ≡ true) × Places fs
 
-  pub output-back : (state : List ℕ) → isBeside output state ≡ true → outputPlace state (namesOf image output 4096) 4096 ≡ output
-  unfolding outputPlace
-  output-back state e =
-      ap (λ (n : List ℕ). joinedOf (folderOf state) n 4096) (ap lastOf recorded ∙ last-of-glued (lastOf image) (lastOf output) (last-plain output))
-      ∙ whole output state (let s = sized output q .1 in omega arith) e
+abbrev pub Tells : List ℕ → List (List ℕ) → Type 0
+Tells names files = (partsOf names ≡ lasts files) × Places files
 
-  pub taken-back : areRecorded (namesOf image output 4096) ≡ true
-  unfolding areRecorded
-  taken-back = ap areRecorded recorded ∙ two
+-- a further file's name comes after those that stand
+module _ (names file : List ℕ) (h : length names ≤ 3846) (p : isPlace file ≡ true) where
+  with-name : withName names file 4096 ≡ names ++ 47 ∷ lastOf file
+  unfolding withName
+  with-name =
+      let s = sized file p .2 in
+      let k = part-sized file p in
+      let m = length-append names (47 ∷ []) in
+      ap (λ (f : List ℕ). joinedOf f (lastOf file) 4096) (joins names (47 ∷ []) 4096 (omega arith))
+      ∙ joins (names ++ 47 ∷ []) (lastOf file) 4096 (omega arith) ∙ sym (glued names (lastOf file))
+
+  pub with-sized : length (withName names file 4096) ≤ length names + 250
+  with-sized =
+      let e = ap length with-name in
+      let s = sized file p .2 in
+      let k = part-sized file p in
+      let m = length-append names (47 ∷ lastOf file) in
+      let o = add-one (length (lastOf file)) in
+      omega arith
+
+  with-parts : partsOf (withName names file 4096) ≡ partsOf names ++ lastOf file ∷ []
+  with-parts =
+      ap partsOf with-name ∙ cut-joined names (lastOf file) ∙ ap (λ (ps : List (List ℕ)). partsOf names ++ ps) (uncut (lastOf file) (last-plain file))
+
+  pub tells-more : (files : List (List ℕ)) → Tells names files → Tells (withName names file 4096) (files ++ file ∷ [])
+  tells-more files t = (with-parts ∙ ap (λ (ps : List (List ℕ)). ps ++ lastOf file ∷ []) (t .0) ∙ after files, all files (t .1))
     where
-      two : areRecorded (lastOf image ++ 47 ∷ lastOf output) ≡ true
-      two =
-          let n = last-plain output in
-          let s = sized image p in
-          let t = sized output q in
-          let k = part-sized image p in
-          let l = part-sized output q in
-          let g = last-glued (lastOf image) (lastOf output) n in
-          let m = length-append (lastOf image) (47 ∷ lastOf output) in
-          let x = s .0 in
-          let y = t .0 in
-          let names : List ℕ = lastOf image ++ 47 ∷ lastOf output in
-          let some : 0 < lastAt names - 1 = omega arith in
-          let more : lastAt names < length names = omega arith in
-          let plain : lastAt (imageIn names) ≡ 0 =
-          ap lastAt (first-of-glued (lastOf image) (lastOf output) n) ∙ last-zero (lastOf image) (last-plain image) in
-          rw (lt-ltb 0 (lastAt names - 1) some, lt-ltb (lastAt names) (length names) more, plain)
+      after : (fs : List (List ℕ)) → lasts fs ++ lastOf file ∷ [] ≡ lasts (fs ++ file ∷ [])
+      after [] = refl
+      after (f ∷ fs) = ap (λ (ps : List (List ℕ)). lastOf f ∷ ps) (after fs)
+
+      all : (fs : List (List ℕ)) → Places fs → Places (fs ++ file ∷ [])
+      all [] q = (p, tt)
+      all (f ∷ fs) q = (q .0, all fs (q .1))
+
+pub tells-two : (image output : List ℕ) → isPlace image ≡ true → isPlace output ≡ true → Tells (namesOf image output 4096) (image ∷ output ∷ [])
+unfolding namesOf
+tells-two image output p q =
+    tells-more (lastOf image) output (let s = sized image p .2 in let k = part-sized image p in omega arith) q (image ∷ [])
+    (uncut (lastOf image) (last-plain image), (p, tt))
+
+-- a call in the same folder finds each file's place, and takes the names
+module _ (names : List ℕ) (files : List (List ℕ)) (t : Tells names files) where
+  file-at : (k : ℕ) (fs : List (List ℕ)) → Places fs → k < length fs → (isPlace (getD fs k []) ≡ true) × (getD (lasts fs) k [] ≡ lastOf (getD fs k []))
+  file-at k [] q h = absurd (none-less h)
+    where
+      none-less : k < 0 → ⊥
+      none-less g = omega arith
+  file-at zero (f ∷ fs) q h = (q .0, refl)
+  file-at (suc k) (f ∷ fs) q h = file-at k fs (q .1) (le-of-suc-le-suc h)
+
+  module _ (state : List ℕ) where
+    named-back : (k : ℕ) → k < length files → isBeside (getD files k []) state ≡ true → namedPlace k state names 4096 ≡ getD files k []
+    unfolding namedPlace nameAt
+    named-back k h e =
+        let f = file-at k files (t .1) h in
+        ap (λ (n : List ℕ). joinedOf (folderOf state) n 4096) (ap (λ (ps : List (List ℕ)). getD ps k []) (t .0) ∙ f .1)
+        ∙ whole (getD files k []) state (let s = sized (getD files k []) (f .0) .1 in omega arith) e
+
+    pub image-back : 0 < length files → isBeside (getD files 0 []) state ≡ true → placeOf 0 state names 4096 ≡ getD files 0 []
+    unfolding placeOf
+    image-back h e = named-back 0 h e
+
+    pub output-back : 1 < length files → isBeside (getD files 1 []) state ≡ true → placeOf 3 state names 4096 ≡ getD files 1 []
+    unfolding placeOf
+    output-back h e = named-back 1 h e
+
+    pub further-back : (k : ℕ) → 2 ≤ k → k < length files → isBeside (getD files k []) state ≡ true → placeOf (k + 3) state names 4096 ≡ getD files k []
+    unfolding placeOf
+    further-back k g h e =
+        let i : k + 3 - 3 ≡ k = omega arith in
+        picks _ _ (lt-ltb 4 (k + 3) (omega arith)) ∙ ap (λ (j : ℕ). namedPlace j state names 4096) i ∙ named-back k h e
+
+  pub files-back : length files ≤ 251 → filesOf names ≡ length files + 3
+  unfolding filesOf
+  files-back h =
+      let e : length (partsOf names) ≡ length files = ap length (t .0) ∙ count files in
+      passes _ _ (le-ltb 251 (length (partsOf names)) (omega arith)) ∙ ap (λ (k : ℕ). k + 3) e
+    where
+      count : (fs : List (List ℕ)) → length (lasts fs) ≡ length fs
+      count [] = refl
+      count (f ∷ fs) = ap suc (count fs)
+
+  pub taken-back : 2 ≤ length files → length files ≤ 251 → areRecorded names ≡ true
+  unfolding areRecorded
+  taken-back g h =
+      let e = files-back h in
+      rw (le-leb 5 (filesOf names) (omega arith), le-leb (filesOf names) 254 (omega arith), t .0) (whole-parts files (t .1))
+    where
+      whole-parts : (fs : List (List ℕ)) → Places fs → noneEmpty (lasts fs) ≡ true
+      whole-parts [] q = refl
+      whole-parts (f ∷ fs) q =
+          let s = sized f (q .0) .0 in
+          let k = part-sized f (q .0) in
+          ap (λ (b : Bool). b && noneEmpty (lasts fs)) (lt-ltb 0 (length (lastOf f)) (omega arith)) ∙ whole-parts fs (q .1)
 
 -- two places in STATE's folder for which one file of STATE.night/ or STATE.done/ stands are one place
 module _ (state folder : List ℕ) (h : length state + length folder ≤ 3840) where

@@ -1,16 +1,18 @@
--- A name's folder and its last part: the last part has no `/`, and what has none is its own last part. Assumes nothing.
-use Prim.Native.Nat.{ℕ, _+_, _-_, _≤_}
-use native.Mathlib.Nat.{zero-add}
+-- A name's last part has no `/`; a text that is cut at each `/`, where two are joined by one. Assumes nothing.
+use Prim.Native.Nat.{ℕ, _+_, _≤_, _<_}
 use native.Mathlib.Omega.{arith}
 use mathlib.Core.Bool.{Bool, true, false, cond, true≢false}
 use mathlib.Core.List.{List, [], _∷_, _++_}
 use mathlib.Core.Path.{_≡_, refl, sym, ap, subst, _∙_}
 use lib.Dec.{eqb}
-use lib.ListN.{length, take, drop, length-append}
-use lib.Seq.{drop-at, take-at}
+use lib.ListN.{length, drop, length-append}
+use lib.Seq.{drop-at}
 use borrow.Author.Tests.{eqb-true}
 use Rattle.laws.proofs.Bools.{both}
-use Rattle.night_names.specs.Names.{sameOf, lastFrom, lastAt}
+use Rattle.laws.proofs.Conds.{passes}
+use Rattle.night_arguments.specs.Arguments.{sameOf}
+use Rattle.night_names.specs.Names.{lastFrom, lastAt, begun, partsOf}
+use Rattle.night_names.proofs.Cuts.{some-part}
 
 -- texts that are told the same are
 pub same-sound : (a b : List ℕ) → sameOf a b ≡ true → a ≡ b
@@ -65,22 +67,6 @@ last-plain l = go (parted l)
         let k : lastAt l ≡ length (a ++ 47 ∷ []) = ap lastAt e ∙ last-after a b 0 0 n ∙ omega (arith, length-append a (47 ∷ [])) in
         subst NoSlash (sym (ap (λ (j : ℕ). drop j l) k ∙ ap (drop (length (a ++ 47 ∷ []))) (e ∙ glued a b) ∙ drop-at (a ++ 47 ∷ []) b _ refl)) n
 
--- the last part of a text in which a `/` and a part without one follow, and what stands before them
-module _ (a b : List ℕ) (n : NoSlash b) where
-  pub last-glued : lastAt (a ++ 47 ∷ b) ≡ length a + 1
-  unfolding lastAt
-  last-glued = last-after a b 0 0 n ∙ zero-add (length a + 1)
-
-  pub last-of-glued : drop (lastAt (a ++ 47 ∷ b)) (a ++ 47 ∷ b) ≡ b
-  last-of-glued =
-      ap (λ (k : ℕ). drop k (a ++ 47 ∷ b)) last-glued ∙ ap (drop (length a + 1)) (glued a b)
-      ∙ drop-at (a ++ 47 ∷ []) b (length a + 1) (length-append a (47 ∷ []))
-
-  pub first-of-glued : take (lastAt (a ++ 47 ∷ b) - 1) (a ++ 47 ∷ b) ≡ a
-  first-of-glued =
-      let k : lastAt (a ++ 47 ∷ b) - 1 ≡ length a = let e = last-glued in omega arith in
-      ap (λ (j : ℕ). take j (a ++ 47 ∷ b)) k ∙ take-at a (47 ∷ b) (length a) refl
-
 pub last-within : (l : List ℕ) → lastAt l ≤ length l
 unfolding lastAt
 last-within l = go (parted l)
@@ -92,6 +78,26 @@ last-within l = go (parted l)
         let m : length l ≡ length a + length (47 ∷ b) = ap length e ∙ length-append a (47 ∷ b) in
         omega arith
 
-pub last-zero : (l : List ℕ) → NoSlash l → lastAt l ≡ 0
-unfolding lastAt
-last-zero l n = last-none l 0 0 n
+-- two texts with a `/` between them have the parts of both
+begun-both : (c : ℕ) (ps qs : List (List ℕ)) → 0 < length ps → begun c (ps ++ qs) ≡ begun c ps ++ qs
+begun-both c [] qs h = absurd (none-less h)
+  where
+    none-less : 0 < 0 → ⊥
+    none-less g = omega arith
+begun-both c (p ∷ ps) qs h = refl
+
+pub cut-joined : (a b : List ℕ) → partsOf (a ++ 47 ∷ b) ≡ partsOf a ++ partsOf b
+unfolding partsOf
+cut-joined [] b = refl
+cut-joined (c ∷ a) b = go (eqb c 47) (cut-joined a b)
+  where
+    go : (t : Bool) → partsOf (a ++ 47 ∷ b) ≡ partsOf a ++ partsOf b
+        → cond t ([] ∷ partsOf (a ++ 47 ∷ b)) (begun c (partsOf (a ++ 47 ∷ b))) ≡ cond t ([] ∷ partsOf a) (begun c (partsOf a)) ++ partsOf b
+    go true e = ap (λ (ps : List (List ℕ)). [] ∷ ps) e
+    go false e = ap (begun c) e ∙ begun-both c (partsOf a) (partsOf b) (some-part a)
+
+-- a text without one is its only part
+pub uncut : (l : List ℕ) → NoSlash l → partsOf l ≡ l ∷ []
+unfolding partsOf
+uncut [] n = refl
+uncut (c ∷ cs) n = passes _ _ (n .0) ∙ ap (begun c) (uncut cs (n .1))

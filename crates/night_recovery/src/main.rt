@@ -1,6 +1,6 @@
-// The recovery on prepared folders, one for each case, in data/: STATE.done with all, some and none of its files, with other names, without names;
-// STATE.night standing; a call that has an earlier night's names. Then a whole night, one that did not run, two that fail. The old files hold `old`
-// and the new ones `new`. Last the names that a call may have.
+// The recovery on prepared folders, one for each case, in data/: STATE.done with all, some and none of its files, with other names, without names, with
+// one name; STATE.night standing; a call that has an earlier night's names. Then a whole night, one that did not run, two that fail; and recoveries and a night
+// with a further file, the log. The old files hold `old` and the new ones `new`. Last the names that a call may have, and its options.
 use night_steps::Op;
 use printing::Line;
 
@@ -87,14 +87,18 @@ fn call(case: &[u8]) {
 }
 
 // The end of a call whose night has run, or has not.
-fn end(case: &[u8], ran: bool) {
+fn end_with(case: &[u8], ran: bool, names: &[u8]) {
     let mut state = io::buffer();
     let n = night_arguments::joined(case, b"/state", &mut state);
     let new = *b"new";
     show_case(
         case,
-        night_commit::finish(ran, &state[..n], b"image/output", &new, &new, &new, &new),
+        night_commit::finish(ran, &state[..n], names, &new, &new, &new, &new, &new),
     );
+}
+
+fn end(case: &[u8], ran: bool) {
+    end_with(case, ran, b"image/output");
 }
 
 fn recoveries() {
@@ -140,6 +144,30 @@ fn nights() {
     end(b"cleaned", true);
 }
 
+fn show_log(case: &[u8]) {
+    show(case, b"/log");
+    Line::empty().text(b" is the log\n").print();
+}
+
+fn call_logged(case: &[u8]) {
+    call(case);
+    show_log(case);
+}
+
+// The log is still in STATE.done, with the others or alone; it is there already; its name is empty. Then a night with a log, and one without.
+fn logs() {
+    call_logged(b"logged");
+    call_logged(b"partly");
+    call_logged(b"logless");
+    call_logged(b"gap");
+    call(b"kept");
+    end(b"kept", true);
+    show_log(b"kept");
+    call(b"kept");
+    end_with(b"kept", true, b"image/output/log");
+    show_log(b"kept");
+}
+
 // Whether a place is a folder.
 fn show_any(word: &[u8], state: &[u8], names: &[u8]) {
     Line::empty().text(word).print();
@@ -157,6 +185,7 @@ fn places() {
     show_any(b"nothing", b"machine", b"image/output");
     show_any(b"sent", b"machine", b"image/sent");
     show_any(b"state.rest", b"state", b"image/output");
+    show_any(b"a further one", b"machine", b"image/output/log/sent");
 }
 
 // Whether a call may have these names.
@@ -221,15 +250,102 @@ fn long_parts() {
     show_image(b"part of 250", &part);
 }
 
-fn main() {
-    recoveries();
-    stale();
-    refusals();
-    nights();
-    places();
+// Whether a night may have this further file.
+fn show_further(word: &[u8], file: &[u8]) {
+    Line::empty().text(word).print();
+    if night_names::is_further(file, b"s", b"m", b"i/o/f") {
+        Line::empty().text(b": a further one\n").print();
+        return;
+    }
+    Line::empty().text(b": none\n").print();
+}
+
+fn further() {
+    show_further(b"log", b"l");
+    show_further(b"no log", b"");
+    show_further(b"log elsewhere", b"e/l");
+    show_further(b"log is image", b"i");
+    show_further(b"log is output", b"o");
+    show_further(b"log is a further one", b"f");
+    show_further(b"log is session", b"s");
+    show_further(b"log is state", b"m");
+    show_further(b"log is done", b"m.done");
+}
+
+// Where the names of a call begin, and which argument is the log's name, by the arguments' kinds.
+fn show_call(word: &[u8], kinds: &[u8]) {
+    let mut values = [0u8; 1];
+    let names = night_arguments::read_call(kinds, &mut values);
+    Line::empty()
+        .text(word)
+        .text(b": names ")
+        .decimal(names as u64)
+        .print();
+    show_number(b" log ", values[0]);
+    Line::empty().text(b"\n").print();
+}
+
+fn show_kind(text: &[u8]) {
+    let kind = night_arguments::kind_of(text);
+    Line::empty()
+        .text(text)
+        .text(b": ")
+        .decimal(kind as u64)
+        .text(b"\n")
+        .print();
+}
+
+fn kinds() {
+    show_kind(b"--log");
+    show_kind(b"--");
+    show_kind(b"--lo");
+    show_kind(b"--logs");
+    show_kind(b"-log");
+    show_kind(b"-");
+    show_kind(b"");
+    show_kind(b"log");
+}
+
+fn calls() {
+    show_call(b"six", &[0, 0, 0, 0, 0, 0]);
+    show_call(b"five", &[0, 0, 0, 0, 0]);
+    show_call(b"seven", &[0, 0, 0, 0, 0, 0, 0]);
+    show_call(b"log", &[3, 0, 0, 0, 0, 0, 0, 0]);
+    show_call(b"a value like an option", &[3, 3, 0, 0, 0, 0, 0, 0]);
+}
+
+fn bad_calls() {
+    show_call(b"a value is missing", &[3, 0, 0, 0, 0, 0, 0]);
+    show_call(b"log twice", &[3, 0, 3, 0, 0, 0, 0, 0, 0, 0]);
+    show_call(b"unknown", &[2, 0, 0, 0, 0, 0, 0, 0]);
+    show_call(b"no arguments", &[]);
+}
+
+fn ended_calls() {
+    show_call(b"ended", &[1, 0, 0, 0, 0, 0, 0]);
+    show_call(b"names like options", &[3, 0, 1, 3, 2, 0, 0, 1, 0]);
+    show_call(b"ended twice", &[1, 1, 0, 0, 0, 0, 0, 0]);
+}
+
+fn texts() {
     images();
     sessions();
     outputs();
     folders();
     long_parts();
+    further();
+}
+
+fn main() {
+    recoveries();
+    stale();
+    refusals();
+    nights();
+    logs();
+    places();
+    texts();
+    kinds();
+    calls();
+    bad_calls();
+    ended_calls();
 }

@@ -19,8 +19,9 @@ use Rattle.session.specs.declared.Fault.the-variants.{Length, Kind, Value, Time
 use Rattle.replies.specs.Replies.{Told, told, stops}
 use Rattle.machine.specs.declared.Machine.{Machine}
 use Rattle.boundary.specs.declared.Stop.{Stop}
-use Rattle.boundary.specs.declared.Stop.the-variants.{Limit, Undefined, Full}
-use Rattle.boundary.specs.World.{Lent, withOutput, Terms, terms, stopNumber}
+use Rattle.boundary.specs.declared.Stop.the-variants.{Limit, Undefined, Full, LogFull}
+use Rattle.boundary.specs.declared.Watch.{Watch}
+use Rattle.boundary.specs.World.{Lent, withOutput, withLog, Terms, watching, stopNumber}
 use Rattle.boundary.specs.Start.{startWorld, ranOf}
 use Rattle.boundary.proofs.Kept as kept
 use Rattle.cabinet.specs.Answers.{answerOf}
@@ -42,6 +43,7 @@ reached : (k : Stop) {n cycles : ℕ} → kept.Reached k n cycles → stopNumber
 reached Limit h e = h
 reached Undefined h e = absurd (let z : ⊥ = omega arith in z)
 reached Full h e = absurd (let z : ⊥ = omega arith in z)
+reached LogFull h e = absurd (let z : ⊥ = omega arith in z)
 
 limit-reached : (asked : Terms) (m : Machine) (given : Lent) → let a = answerOf asked m given in a .reply .number ≡ 0 → asked .limit ≤ a .cycles
 limit-reached asked m given =
@@ -73,8 +75,8 @@ less left cycles l k = omega arith
 pub slice-falls : (s : Standing) → goesOn (sliceOf s) ≡ true → sliceOf s .left < s .left
 unfolding sliceOf
 slice-falls s g =
-    let asked = terms (s .session) (sliceCycles (s .left)) in
-    let given = withOutput (s .lent) (drop (s .sent) (s .lent .output)) in
+    let asked = watching (s .session) (sliceCycles (s .left)) (s .watch) in
+    let given = withLog (withOutput (s .lent) (drop (s .sent) (s .lent .output))) (drop (s .logged) (s .lent .log)) in
     let a = answerOf asked (s .machine) given in
     let p = both _ _ g in
     let z = kept-zero (a .reply) (s .session) (a .used) (a .cycles) (eqb-true _ _ (p .0)) in
@@ -106,23 +108,23 @@ take-least k l = by (leb k (length l)) refl
         let z : min k (length l) ≡ length l = omega arith in
         ap (λ (j : ℕ). take j l) z ∙ take-all (length l) l (omega arith) ∙ sym (take-all k l (omega arith))
 
-module _ (session : List ℕ) (size n : ℕ) (m : Machine) (given : Lent) (room : ℕ) {least : ℕ} (e : least ≡ min size (length session)) where
+module _ (session : List ℕ) (size n : ℕ) (watch : Watch) (m : Machine) (given : Lent) (room : ℕ) {least : ℕ} (e : least ≡ min size (length session)) where
   same : take least session ≡ take size session
   same = ap (λ (j : ℕ). take j session) e ∙ take-least size session
 
   abbrev night : Standing
-  night = nightOf (terms (take size session) n) m given room
+  night = nightOf (watching (take size session) n watch) m given room
 
-  pub night-refused : room < least → nightAt (told 31 none) (terms (take least session) n) m given ≡ night
+  pub night-refused : room < least → nightAt (told 31 none) (watching (take least session) n watch) m given ≡ night
   unfolding nightOf
   night-refused h =
       let l = length-take size session in
-      ap (λ (s : List ℕ). nightAt (told 31 none) (terms s n) m given) same
+      ap (λ (s : List ℕ). nightAt (told 31 none) (watching s n watch) m given) same
       ∙ sym (picks _ _ (lt-ltb room (length (take size session)) (omega arith)))
 
-  pub night-runs : least ≤ room → slicesOf (nightAt (told 0 none) (terms (take least session) n) m given) ≡ night
+  pub night-runs : least ≤ room → slicesOf (nightAt (told 0 none) (watching (take least session) n watch) m given) ≡ night
   unfolding nightOf
   night-runs h =
       let l = length-take size session in
-      ap (λ (s : List ℕ). slicesOf (nightAt (told 0 none) (terms s n) m given)) same
+      ap (λ (s : List ℕ). slicesOf (nightAt (told 0 none) (watching s n watch) m given)) same
       ∙ sym (passes _ _ (le-ltb room (length (take size session)) (omega arith)))

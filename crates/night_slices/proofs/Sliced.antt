@@ -3,10 +3,10 @@ use Prim.Native.Nat.{ℕ, _+_, _-_, _≤_, _<_}
 use native.Mathlib.Nat.{le-of-eq}
 use native.Mathlib.Omega.{arith}
 use mathlib.Core.List.{List, _++_, append-nil}
-use mathlib.Core.Path.{_≡_, ap, _∙_}
+use mathlib.Core.Path.{_≡_, sym, ap, subst, _∙_}
 use lib.ListN.{length, take, drop, length-drop, drop-of-length-le}
 use Rattle.replies.specs.Replies.{toldReply}
-use Rattle.boundary.specs.World.{lent, withOutput, terms}
+use Rattle.boundary.specs.World.{Lent, lending, withOutput, withLog, Terms, watching, later, loggedBytes}
 use Rattle.boundary.proofs.Output.{filled-part}
 use Rattle.cabinet.specs.declared.Leapt.{Leapt}
 use Rattle.cabinet.specs.Answers.{Answer, answered, answerOf, leapsOf}
@@ -14,6 +14,7 @@ use Rattle.cabinet.proofs.Ends.{left-cases}
 use Rattle.night_slices.specs.declared.Kept.{Kept}
 use Rattle.night_slices.specs.declared.Night.{Night}
 use Rattle.night_slices.specs.Slices.{sliceCycles, Standing, roundSum, Keeping, keepingOf, afterOf, sliceOf, kept, standing, nextOf}
+use Rattle.night_slices.proofs.Logging.{logged-within}
 
 -- a list whose end from a place on was changed
 pub put-end : (k : ℕ) (s t : List ℕ) → take k s ++ (t ++ drop (length s - k) (drop k s)) ≡ take k s ++ t
@@ -27,54 +28,65 @@ withKept s a leaps k =
     record {
       told = k .told;
       machine = a .machine;
-      lent = withOutput (a .lent) (take (s .sent) (s .lent .output) ++ a .lent .output);
+      lent = withLog (withOutput (a .lent) (take (s .sent) (s .lent .output) ++ a .lent .output)) (take (s .logged) (s .lent .log) ++ a .lent .log);
       session = k .session;
       left = s .left - a .cycles;
+      watch = later (s .watch) (a .cycles);
       slices = roundSum (s .slices) 1;
       cycles = roundSum (s .cycles) (a .cycles);
       instructions = roundSum (s .instructions) (a .instructions);
       entries = roundSum (s .entries) (a .entries);
       used = roundSum (s .used) (a .used);
       sent = s .sent + a .sent;
+      logged = s .logged + loggedBytes (s .watch) (a .entries);
       leaps = roundSum (s .leaps) leaps;
     }
 
-module _ (n : Night) (l : Leapt) (image session output : List ℕ) {c : ℕ} {part image′ part′ : List ℕ}
-    (e : c ≡ sliceCycles (n .left)) (p : part ≡ drop (n .sent) output)
-    (a : answered (l .ran) (lent image′ part′) ≡ answerOf (terms (take (n .length) session) c) (n .machine) (lent image part)) where
-  abbrev rest : List ℕ
-  rest = take (n .length) session
+module _ (n : Night) (l : Leapt) (image session output log : List ℕ) {c : ℕ} {part rows image′ part′ rows′ : List ℕ}
+    (e : c ≡ sliceCycles (n .left)) (p : part ≡ drop (n .sent) output) (q : rows ≡ drop (n .logged) log)
+    (a : answered (l .ran) (lending image′ part′ rows′)
+    ≡ answerOf (watching (take (n .length) session) c (n .watch)) (n .machine) (lending image part rows)) where
+  abbrev asked : ℕ → Terms
+  asked k = watching (take (n .length) session) k (n .watch)
+
+  -- a part that is filled from a place on stays within the whole
+  fitted : (k i : ℕ) (whole part : List ℕ) {x : ℕ} → i ≡ x → x ≤ length part → part ≡ drop k whole → k ≤ length whole → k + i ≤ length whole
+  fitted k i whole part f s d h = let g = ap length d ∙ length-drop k whole in omega (arith, f, s, g, h)
 
   pub sent-fits : n .sent ≤ length output → n .sent + l .ran .sent .0 ≤ length output
   sent-fits h =
-      let given = lent image part in
-      let s = left-cases (terms rest c) (n .machine) given (λ w. w .state .sent .0 ≤ length part) (omega arith) (λ f. filled-part (terms rest c) (n .machine) given .0) in
-      let q : l .ran .sent .0 ≡ answerOf (terms rest c) (n .machine) given .sent = ap (λ (x : Answer). x .sent) a in
-      let d : length part ≡ length output - n .sent = ap length p ∙ length-drop (n .sent) output in
-      fitted (n .sent) (l .ran .sent .0) (length output) (length part) q s d h
-    where
-      fitted : (k i o j : ℕ) {x : ℕ} → i ≡ x → x ≤ j → j ≡ o - k → k ≤ o → k + i ≤ o
-      fitted k i o j q s d h = omega arith
+      let given = lending image part rows in
+      let s = left-cases (asked c) (n .machine) given (λ w. w .state .sent .0 ≤ length part) (omega arith) (λ f. filled-part (asked c) (n .machine) given .0) in
+      fitted (n .sent) (l .ran .sent .0) output part (ap (λ (x : Answer). x .sent) a) s p h
 
-  answers : answered (l .ran) (lent image′ part′) ≡ answerOf (terms rest (sliceCycles (n .left))) (n .machine) (lent image (drop (n .sent) output))
-  answers =
-      a ∙ ap (λ (j : ℕ). answerOf (terms rest j) (n .machine) (lent image part)) e
-      ∙ ap (λ (o : List ℕ). answerOf (terms rest (sliceCycles (n .left))) (n .machine) (lent image o)) p
+  pub logged-fits : n .logged ≤ length log → n .logged + loggedBytes (n .watch) (l .ran .entries .0) ≤ length log
+  logged-fits h =
+      fitted (n .logged) (loggedBytes (n .watch) (l .ran .entries .0)) log rows (ap (λ (x : Answer). loggedBytes (n .watch) (x .entries)) a)
+      (logged-within (asked c) (n .machine) (lending image part rows)) q h
 
-  pub sliced : l .leaps .0 ≡ leapsOf (terms rest c) (n .machine) (lent image part) → (k : Kept) (session′ : List ℕ)
-      → kept k session′ ≡ keepingOf (toldReply (l .ran .reply)) rest (l .ran .used .0) (l .ran .cycles .0)
-      → {r : Night} → r ≡ nextOf n l k → {o : List ℕ} → o ≡ take (n .sent) output ++ part′
-      → standing r (lent image′ o) session′ ≡ sliceOf (standing n (lent image output) session)
+  -- the run was asked and lent what a slice is
+  abbrev given : Lent
+  given = lending image (drop (n .sent) output) (drop (n .logged) log)
+
+  same : {A : Type 0} (f : Terms → Lent → A) → f (asked c) (lending image part rows) ≡ f (asked (sliceCycles (n .left))) given
+  same f =
+      ap (λ (j : ℕ). f (asked j) (lending image part rows)) e
+      ∙ ap (λ (o : List ℕ). f (asked (sliceCycles (n .left))) (lending image o rows)) p
+      ∙ ap (λ (o : List ℕ). f (asked (sliceCycles (n .left))) (lending image (drop (n .sent) output) o)) q
+
+  pub sliced : l .leaps .0 ≡ leapsOf (asked c) (n .machine) (lending image part rows) → (k : Kept) (session′ : List ℕ)
+      → kept k session′ ≡ keepingOf (toldReply (l .ran .reply)) (take (n .length) session) (l .ran .used .0) (l .ran .cycles .0)
+      → {r : Night} → r ≡ nextOf n l k → {output′ log′ : List ℕ} → output′ ≡ take (n .sent) output ++ part′ → log′ ≡ take (n .logged) log ++ rows′
+      → standing r (lending image′ output′ log′) session′ ≡ sliceOf (standing n (lending image output log) session)
   unfolding sliceOf
-  sliced f k session′ g {r} d {o} q =
-      let s = standing n (lent image output) session in
-      ap (λ (x : Night). standing x (lent image′ o) session′) d
-      ∙ ap (λ (x : List ℕ). standing (nextOf n l k) (lent image′ x) session′) q
-      ∙ ap (withKept s (answered (l .ran) (lent image′ part′)) (l .leaps .0)) g
-      ∙ ap (λ (x : Answer). afterOf s x (l .leaps .0)) answers
-      ∙ ap (afterOf s (answerOf (terms rest (sliceCycles (n .left))) (n .machine) (lent image (drop (n .sent) output))))
-      (f ∙ ap (λ (j : ℕ). leapsOf (terms rest j) (n .machine) (lent image part)) e
-      ∙ ap (λ (x : List ℕ). leapsOf (terms rest (sliceCycles (n .left))) (n .machine) (lent image x)) p)
+  sliced f k session′ g {r} d {output′} {log′} u v =
+      let s = standing n (lending image output log) session in
+      ap (λ (x : Night). standing x (lending image′ output′ log′) session′) d
+      ∙ ap (λ (x : List ℕ). standing (nextOf n l k) (lending image′ x log′) session′) u
+      ∙ ap (λ (x : List ℕ). standing (nextOf n l k) (lending image′ (take (n .sent) output ++ part′) x) session′) v
+      ∙ ap (withKept s (answered (l .ran) (lending image′ part′ rows′)) (l .leaps .0)) g
+      ∙ ap (λ (x : Answer). afterOf s x (l .leaps .0)) (a ∙ same (λ t i. answerOf t (n .machine) i))
+      ∙ ap (afterOf s (answerOf (asked (sliceCycles (n .left))) (n .machine) given)) (f ∙ same (λ t i. leapsOf t (n .machine) i))
 
 pub fitting : {k : ℕ} (a b : ℕ) → a + b ≤ k → k < 18446744073709551616 → a + b < 18446744073709551616
 fitting a b h g = omega arith
@@ -85,3 +97,7 @@ next-size n l k d h = let z = ap (λ (x : Night). x .length) d in omega (arith, 
 
 pub next-sent : (n : Night) (l : Leapt) (k : Kept) {r : Night} {o : ℕ} → r ≡ nextOf n l k → n .sent + l .ran .sent .0 ≤ o → r .sent ≤ o
 next-sent n l k d h = let z = ap (λ (x : Night). x .sent) d in omega (arith, z, h)
+
+pub next-logged : (n : Night) (l : Leapt) (k : Kept) {r : Night} {o : ℕ} → r ≡ nextOf n l k → n .logged + loggedBytes (n .watch) (l .ran .entries .0) ≤ o
+    → r .logged ≤ o
+next-logged n l k {r} {o} d h = subst (λ (j : ℕ). j ≤ o) (sym (ap (λ (x : Night). x .logged) d)) h

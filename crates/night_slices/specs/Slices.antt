@@ -8,7 +8,8 @@ use lib.ListN.{length, take, drop}
 use Rattle.turns.specs.Turn.{Turn, more, done, loopOf}
 use Rattle.replies.specs.Replies.{Told, told, toldReply, stops}
 use Rattle.machine.specs.declared.Machine.{Machine}
-use Rattle.boundary.specs.World.{Lent, lent, withOutput, Terms, terms}
+use Rattle.boundary.specs.declared.Watch.{Watch}
+use Rattle.boundary.specs.World.{Lent, withOutput, withLog, Terms, watching, later, loggedBytes}
 use Rattle.cabinet.specs.declared.Ran.{Ran}
 use Rattle.cabinet.specs.declared.Leapt.{Leapt}
 use Rattle.cabinet.specs.Answers.{Answer, answerOf, leapsOf}
@@ -27,19 +28,21 @@ abbrev pub sliceCycles : ℕ → ℕ
 sliceCycles left = min left 1000000000
 
 -- a night as it stands after a slice, or at its start: the last slice's reply, the machine, what is lent, the rest of the session, the
--- cycles that are left, and the sums of the slices' counts
+-- cycles that are left, what is watched, the sums of the slices' counts, and how many bytes of the log are filled
 pub record Standing : Type 0 where
   pub told : Told
   pub machine : Machine
   pub lent : Lent
   pub session : List ℕ
   pub left : ℕ
+  pub watch : Watch
   pub slices : ℕ
   pub cycles : ℕ
   pub instructions : ℕ
   pub entries : ℕ
   pub used : ℕ
   pub sent : ℕ
+  pub logged : ℕ
   pub leaps : ℕ
 
 -- a sum of counts goes round at 2^64
@@ -70,23 +73,26 @@ afterOf s a leaps =
     record {
       told = k .told;
       machine = a .machine;
-      lent = withOutput (a .lent) (take (s .sent) (s .lent .output) ++ a .lent .output);
+      lent = withLog (withOutput (a .lent) (take (s .sent) (s .lent .output) ++ a .lent .output)) (take (s .logged) (s .lent .log) ++ a .lent .log);
       session = k .session;
       left = s .left - a .cycles;
+      watch = later (s .watch) (a .cycles);
       slices = roundSum (s .slices) 1;
       cycles = roundSum (s .cycles) (a .cycles);
       instructions = roundSum (s .instructions) (a .instructions);
       entries = roundSum (s .entries) (a .entries);
       used = roundSum (s .used) (a .used);
       sent = s .sent + a .sent;
+      logged = s .logged + loggedBytes (s .watch) (a .entries);
       leaps = roundSum (s .leaps) leaps;
     }
 
--- one slice: the run of what is left, on the part of the output that is not filled
+-- one slice: the run of what is left, on the parts of the output and of the log that are not filled; "the cycles of the slices before are
+-- added to its rows"
 unfoldable pub sliceOf : Standing → Standing
 sliceOf s =
-    let asked = terms (s .session) (sliceCycles (s .left)) in
-    let given = withOutput (s .lent) (drop (s .sent) (s .lent .output)) in
+    let asked = watching (s .session) (sliceCycles (s .left)) (s .watch) in
+    let given = withLog (withOutput (s .lent) (drop (s .sent) (s .lent .output))) (drop (s .logged) (s .lent .log)) in
     afterOf s (answerOf asked (s .machine) given) (leapsOf asked (s .machine) given)
 
 -- slices go on while the limit of each is reached and cycles are left
@@ -108,12 +114,14 @@ nightAt t asked m given =
       lent = given;
       session = asked .session;
       left = asked .limit;
+      watch = asked .watch;
       slices = 0;
       cycles = 0;
       instructions = 0;
       entries = 0;
       used = 0;
       sent = 0;
+      logged = 0;
       leaps = 0;
     }
 
@@ -149,12 +157,14 @@ standing n given session =
       lent = given;
       session = take (n .length) session;
       left = n .left;
+      watch = n .watch;
       slices = n .slices .0;
       cycles = n .cycles .0;
       instructions = n .instructions .0;
       entries = n .entries .0;
       used = n .used .0;
       sent = n .sent;
+      logged = n .logged;
       leaps = n .leaps .0;
     }
 
@@ -163,14 +173,16 @@ abbrev pub ranNumbers : Ran → Numbers
 ranNumbers r = record { cycles = r .cycles .0; instructions = r .instructions .0; entries = r .entries .0; used = r .used .0; sent = r .sent .0 }
 
 -- the night at its start, and after a slice, as the code has them
-abbrev pub beginning : SliceEnd → Machine → ℕ → ℕ → Night
-beginning e m size n =
+abbrev pub beginning : SliceEnd → Machine → ℕ → ℕ → Watch → Night
+beginning e m size n watch =
     record {
       ended = e;
       machine = m;
       length = size;
       left = n;
+      watch = watch;
       sent = 0;
+      logged = 0;
       slices = record { 0 = 0 };
       cycles = record { 0 = 0 };
       instructions = record { 0 = 0 };
@@ -187,7 +199,9 @@ nextOf n l k =
       machine = r .machine;
       length = k .length;
       left = n .left - r .cycles .0;
+      watch = later (n .watch) (r .cycles .0);
       sent = n .sent + r .sent .0;
+      logged = n .logged + loggedBytes (n .watch) (r .entries .0);
       slices = record { 0 = roundSum (n .slices .0) 1 };
       cycles = record { 0 = roundSum (n .cycles .0) (r .cycles .0) };
       instructions = record { 0 = roundSum (n .instructions .0) (r .instructions .0) };

@@ -1,4 +1,5 @@
 // A night: a long run of the leaping kind in slices, each with the rest of the session that the one before left.
+use boundary::Watch;
 use cabinet::Leapt;
 use cabinet::Ran;
 use counts::Cycles;
@@ -16,7 +17,7 @@ ghost use Prim.Native.Nat.{_-_, _+_, _^_, _≤_, _<_, min};
 ghost use lib.Dec.{eqb};
 ghost use lib.ListN.{length, take};
 ghost use Rattle.replies.specs.Replies.{toldReply, stops};
-ghost use Rattle.boundary.specs.World.{lent, terms};
+ghost use Rattle.boundary.specs.World.{lent, lending, watching, loggedBytes};
 ghost use Rattle.printing.specs.Printing.{emptyLine, putsOf};
 ghost use Rattle.night_lines.specs.NightLines.{sliceText, endText};
 ghost use Rattle.night_slices.specs.Slices.{sliceCycles, keepingOf, kept, toldSliceEnd, ranNumbers, standing, beginning, nextOf};
@@ -42,14 +43,16 @@ pub struct NightRecords(pub u64);
 
 pub struct NightLeaps(pub u64);
 
-// A night between slices: `length` bytes of the session's buffer are its rest, `left` cycles are still to run, and the first `sent`
-// bytes of the output are filled.
+// A night between slices: `length` bytes of the session's buffer are its rest, `left` cycles are still to run, the next slice watches
+// `watch`, and the first `sent` bytes of the output and the first `logged` bytes of the log are filled.
 pub struct Night {
     pub ended: SliceEnd,
     pub machine: Machine,
     pub length: usize,
     pub left: u32,
+    pub watch: Watch,
     pub sent: usize,
+    pub logged: usize,
     pub slices: NightSlices,
     pub cycles: NightCycles,
     pub instructions: NightInstructions,
@@ -185,15 +188,17 @@ fn closing(ended: SliceEnd, slices: u64, n: Numbers, leaps: u64, c: Registers) -
 
 impl Night {
     // A night at its start.
-    fn start(ended: SliceEnd, m: Machine, size: usize, n: u32) -> Night
-        ensures { λ r. ⌜ r ≡ beginning ended m size n ⌝ }
+    fn start(ended: SliceEnd, m: Machine, size: usize, n: u32, watch: Watch) -> Night
+        ensures { λ r. ⌜ r ≡ beginning ended m size n watch ⌝ }
     {
         Night {
             ended: ended,
             machine: m,
             length: size,
             left: n,
+            watch: watch,
             sent: 0,
+            logged: 0,
             slices: NightSlices(0),
             cycles: NightCycles(0),
             instructions: NightInstructions(0),
@@ -205,18 +210,22 @@ impl Night {
 
     // The night after a slice.
     fn after(self, leapt: Leapt, kept: Kept) -> Night
-        requires { ⌜ self .sent + leapt .ran .sent .0 < 2 ^ 64 ⌝ }
+        requires { ⌜ (self .sent + leapt .ran .sent .0 < 2 ^ 64)
+            × (self .logged + loggedBytes (self .watch) (leapt .ran .entries .0) < 2 ^ 64) ⌝ }
         ensures { λ r. ⌜ r ≡ nextOf self leapt kept ⌝ }
     {
         let ran = leapt.ran;
         let ended = kept.ended;
         let machine = ran.machine;
+        let watch = self.watch;
         Night {
             ended: ended,
             machine: machine,
             length: kept.length,
             left: left_after(self.left, ran.cycles),
+            watch: watch.later(ran.cycles),
             sent: self.sent + ran.sent.0,
+            logged: self.logged + watch.logged(ran.entries),
             slices: NightSlices(wrapping_add_u64(self.slices.0, 1)),
             cycles: NightCycles(wrapping_add_u64(self.cycles.0, ran.cycles.0 as u64)),
             instructions: NightInstructions(wrapping_add_u64(
@@ -237,7 +246,7 @@ impl Night {
         at_limit(ended) & (self.left > 0)
     }
 
-    // Whether the night ran and stopped, with 0, 8 or 9: it was not refused.
+    // Whether the night ran and stopped, with 0, 8, 9 or 11: it was not refused.
     pub fn has_stopped(self) -> bool
         ensures { λ r. ⌜ r ≡ stops (toldSliceEnd (self .ended) .number) ⌝ }
     {
@@ -272,23 +281,29 @@ fn slice(
     image: &mut [u8],
     session: &mut [u8],
     output: &mut [u8],
+    log: &mut [u8],
     spare: &mut [u8],
     night: Night,
 ) -> Night
-    requires { ⌜ (night .length ≤ length (now session)) × (night .length ≤ length (now spare)) × (night .sent ≤ length (now output)) ⌝ }
-    ensures { λ r. ⌜ (standing r (lent (now (image .exit)) (now (output .exit))) (now (session .exit))
-        ≡ sliceOf (standing night (lent (now (image .entry)) (now (output .entry))) (now (session .entry))))
-        × (r .length ≤ night .length) × (r .sent ≤ length (now (output .entry))) ⌝ }
+    requires { ⌜ (night .length ≤ length (now session)) × (night .length ≤ length (now spare)) × (night .sent ≤ length (now output))
+        × (night .logged ≤ length (now log)) ⌝ }
+    ensures { λ r. ⌜ (standing r (lending (now (image .exit)) (now (output .exit)) (now (log .exit))) (now (session .exit))
+        ≡ sliceOf (standing night (lending (now (image .entry)) (now (output .entry)) (now (log .entry))) (now (session .entry))))
+        × (r .length ≤ night .length) × (r .sent ≤ length (now (output .entry))) × (r .logged ≤ length (now (log .entry))) ⌝ }
 {
     let size = night.length;
     let sent = night.sent;
+    let logged = night.logged;
     let m = night.machine;
-    let leapt = cabinet::run_leaping(
+    let watch = night.watch;
+    let leapt = cabinet::watch_leaping(
         image,
         m,
         &session[..size],
         slice_of(night.left),
+        watch,
         &mut output[sent..],
+        &mut log[logged..],
     );
     announce(wrapping_add_u64(night.slices.0, 1), leapt);
     let ran = leapt.ran;
@@ -297,27 +312,30 @@ fn slice(
     night.after(leapt, kept)
 }
 
-// A night of `n` cycles: the first `size` bytes of `session` are its session, and are its rest afterwards. Each slice's line is
-// printed.
+// A night of `n` cycles: the first `size` bytes of `session` are its session, and are its rest afterwards. Where the log is asked for,
+// all slices log into `log`, one after another. Each slice's line is printed.
 pub fn run_night(
     image: &mut [u8],
     m: Machine,
     session: &mut [u8],
     size: usize,
     n: u32,
+    watch: Watch,
     output: &mut [u8],
+    log: &mut [u8],
     spare: &mut [u8],
 ) -> Night
-    ensures { λ r. ⌜ standing r (lent (now (image .exit)) (now (output .exit))) (now (session .exit))
-        ≡ nightOf (terms (take size (now (session .entry))) n) m (lent (now (image .entry)) (now (output .entry))) (length (now (spare .entry))) ⌝ }
+    ensures { λ r. ⌜ standing r (lending (now (image .exit)) (now (output .exit)) (now (log .exit))) (now (session .exit))
+        ≡ nightOf (watching (take size (now (session .entry))) n watch) m
+        (lending (now (image .entry)) (now (output .entry)) (now (log .entry))) (length (now (spare .entry))) ⌝ }
 {
     let size = least(size, session.len());
     if spare.len() < size {
-        return Night::start(SliceEnd::NoRoom, m, size, n);
+        return Night::start(SliceEnd::NoRoom, m, size, n, watch);
     }
-    let mut night = Night::start(SliceEnd::Ran(Reply::Limit), m, size, n);
+    let mut night = Night::start(SliceEnd::Ran(Reply::Limit), m, size, n, watch);
     loop {
-        night = slice(image, session, output, spare, night);
+        night = slice(image, session, output, log, spare, night);
         if !night.goes_on() {
             return night;
         }

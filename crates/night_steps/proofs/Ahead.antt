@@ -1,4 +1,4 @@
--- How many operations are ahead: so many files to make, and from any operation so many until one that waits. Assumes nothing.
+-- How many operations are ahead in a night of n files: so many files to make, and from any operation so many until one that waits. Assumes nothing.
 use Prim.Native.Nat.{ℕ, _+_, _-_, _<_}
 use native.Mathlib.Omega.{arith}
 use mathlib.Core.Bool.{Bool, true, false, true≢false}
@@ -10,101 +10,105 @@ use Rattle.night_steps.specs.declared.Op.the-variants.{Find, ReadNames, 
 use Rattle.night_steps.specs.declared.Op.the-variants.{Commit, SyncCommit, Put, SyncPlaces, RemoveDone, SyncLast, Placed, Refused, Stopped}
 use Rattle.night_steps.specs.Steps.{choice, nextOp, waitsOf, isMake}
 
-abbrev pub ahead : Op → ℕ
-ahead Find = 5
-ahead ReadNames = 0
-ahead Take = 4
-ahead Blocked = 1
-ahead FindAgain = 3
-ahead Settle = 2
-ahead (GiveBack k) = 1
-ahead Run = 0
-ahead (Make i) = 0
-ahead SyncNight = 15
-ahead (Unlink i) = 2 + (4 - i)
-ahead RemoveNight = 1
-ahead Commit = 14
-ahead SyncCommit = 13
-ahead (Put i) = 8 + (4 - i)
-ahead SyncPlaces = 7
-ahead RemoveDone = 6
-ahead SyncLast = 5
-ahead Placed = 0
-ahead (Refused k) = 0
-ahead (Stopped k) = 0
+abbrev pub ahead : ℕ → Op → ℕ
+ahead n Find = 5
+ahead n ReadNames = 0
+ahead n Take = 4
+ahead n Blocked = 1
+ahead n FindAgain = 3
+ahead n Settle = 2
+ahead n (GiveBack k) = 1
+ahead n Run = 0
+ahead n (Make i) = 0
+ahead n SyncNight = 11 + n
+ahead n (Unlink i) = 2 + (n - i)
+ahead n RemoveNight = 1
+ahead n Commit = 10 + n
+ahead n SyncCommit = 9 + n
+ahead n (Put i) = 8 + (n - i)
+ahead n SyncPlaces = 7
+ahead n RemoveDone = 6
+ahead n SyncLast = 5
+ahead n Placed = 0
+ahead n (Refused k) = 0
+ahead n (Stopped k) = 0
 
-abbrev pub toMake : Op → ℕ
-toMake Find = 0
-toMake ReadNames = 0
-toMake Take = 0
-toMake Blocked = 0
-toMake FindAgain = 0
-toMake Settle = 0
-toMake (GiveBack k) = 0
-toMake Run = 0
-toMake (Make i) = 1 + (4 - i)
-toMake SyncNight = 0
-toMake (Unlink i) = 0
-toMake RemoveNight = 0
-toMake Commit = 0
-toMake SyncCommit = 0
-toMake (Put i) = 0
-toMake SyncPlaces = 0
-toMake RemoveDone = 0
-toMake SyncLast = 0
-toMake Placed = 0
-toMake (Refused k) = 0
-toMake (Stopped k) = 0
+abbrev pub toMake : ℕ → Op → ℕ
+toMake n Find = 0
+toMake n ReadNames = 0
+toMake n Take = 0
+toMake n Blocked = 0
+toMake n FindAgain = 0
+toMake n Settle = 0
+toMake n (GiveBack k) = 0
+toMake n Run = 0
+toMake n (Make i) = 1 + (n - i)
+toMake n SyncNight = 0
+toMake n (Unlink i) = 0
+toMake n RemoveNight = 0
+toMake n Commit = 0
+toMake n SyncCommit = 0
+toMake n (Put i) = 0
+toMake n SyncPlaces = 0
+toMake n RemoveDone = 0
+toMake n SyncLast = 0
+toMake n Placed = 0
+toMake n (Refused k) = 0
+toMake n (Stopped k) = 0
 
 -- the less is ahead of both sides of a choice, the less of the choice
-chosen : (f : Op → ℕ) (n : ℕ) (b : Bool) {x y : Op} → (b ≡ true → f x < n) → (b ≡ false → f y < n) → f (choice b x y) < n
-chosen f n true p q = p refl
-chosen f n false p q = q refl
+chosen : (f : Op → ℕ) (m : ℕ) (b : Bool) {x y : Op} → (b ≡ true → f x < m) → (b ≡ false → f y < m) → f (choice b x y) < m
+chosen f m true p q = p refl
+chosen f m false p q = q refl
 
-pub falls : (op : Op) (ok own : Bool) → waitsOf op ≡ false → ahead (nextOp op ok own) < ahead op
-falls Find ok own h = chosen ahead 5 ok (λ e. omega arith) (λ e. omega arith)
-falls ReadNames ok own h = absurd (true≢false h)
-falls Take ok own h = chosen ahead 4 ok (λ e. omega arith) (λ e. omega arith)
-falls Blocked ok own h = chosen ahead 1 ok (λ e. omega arith) (λ e. omega arith)
-falls FindAgain ok own h = chosen ahead 3 ok (λ e. omega arith) (λ e. omega arith)
-falls Settle ok own h = chosen ahead 2 ok (λ e. omega arith) (λ e. omega arith)
-falls (GiveBack k) ok own h = omega arith
-falls Run ok own h = absurd (true≢false h)
-falls (Make i) ok own h = absurd (true≢false h)
-falls SyncNight ok own h = chosen ahead 15 ok (λ e. omega arith) (λ e. omega arith)
-falls (Unlink i) ok own h = chosen ahead (2 + (4 - i)) (ltb i 4) (λ e. let g = ltb-true i 4 e in omega arith) (λ e. omega arith)
-falls RemoveNight ok own h = omega arith
-falls Commit ok own h = chosen ahead 14 ok (λ e. omega arith) (λ e. omega arith)
-falls SyncCommit ok own h = chosen ahead 13 ok (λ e. omega arith) (λ e. omega arith)
-falls (Put i) ok own h =
-    chosen ahead (8 + (4 - i)) ok (λ t. chosen ahead (8 + (4 - i)) (ltb i 4) (λ e. let g = ltb-true i 4 e in omega arith) (λ e. omega arith)) (λ e. omega arith)
-falls SyncPlaces ok own h = chosen ahead 7 ok (λ e. omega arith) (λ e. omega arith)
-falls RemoveDone ok own h = chosen ahead 6 ok (λ e. omega arith) (λ e. omega arith)
-falls SyncLast ok own h = chosen ahead 5 ok (λ t. chosen ahead 5 own (λ e. omega arith) (λ e. omega arith)) (λ e. omega arith)
-falls Placed ok own h = absurd (true≢false h)
-falls (Refused k) ok own h = absurd (true≢false h)
-falls (Stopped k) ok own h = absurd (true≢false h)
+-- the same with the next file, where there is one
+next-file : (f : Op → ℕ) (n i m : ℕ) {x y : Op} → (i + 1 < n → f x < m) → f y < m → f (choice (ltb (i + 1) n) x y) < m
+next-file f n i m p q = chosen f m (ltb (i + 1) n) (λ e. p (ltb-true (i + 1) n e)) (λ e. q)
 
-pub makes-fall : (op : Op) (ok own : Bool) → isMake op ≡ true → toMake (nextOp op ok own) < toMake op
-makes-fall Find ok own h = absurd (true≢false (sym h))
-makes-fall ReadNames ok own h = absurd (true≢false (sym h))
-makes-fall Take ok own h = absurd (true≢false (sym h))
-makes-fall Blocked ok own h = absurd (true≢false (sym h))
-makes-fall FindAgain ok own h = absurd (true≢false (sym h))
-makes-fall Settle ok own h = absurd (true≢false (sym h))
-makes-fall (GiveBack k) ok own h = absurd (true≢false (sym h))
-makes-fall Run ok own h = absurd (true≢false (sym h))
-makes-fall (Make i) ok own h =
-    chosen toMake (1 + (4 - i)) ok (λ t. chosen toMake (1 + (4 - i)) (ltb i 4) (λ e. let g = ltb-true i 4 e in omega arith) (λ e. omega arith)) (λ e. omega arith)
-makes-fall SyncNight ok own h = absurd (true≢false (sym h))
-makes-fall (Unlink i) ok own h = absurd (true≢false (sym h))
-makes-fall RemoveNight ok own h = absurd (true≢false (sym h))
-makes-fall Commit ok own h = absurd (true≢false (sym h))
-makes-fall SyncCommit ok own h = absurd (true≢false (sym h))
-makes-fall (Put i) ok own h = absurd (true≢false (sym h))
-makes-fall SyncPlaces ok own h = absurd (true≢false (sym h))
-makes-fall RemoveDone ok own h = absurd (true≢false (sym h))
-makes-fall SyncLast ok own h = absurd (true≢false (sym h))
-makes-fall Placed ok own h = absurd (true≢false (sym h))
-makes-fall (Refused k) ok own h = absurd (true≢false (sym h))
-makes-fall (Stopped k) ok own h = absurd (true≢false (sym h))
+pub falls : (n : ℕ) (op : Op) (ok own : Bool) → waitsOf op ≡ false → ahead n (nextOp n op ok own) < ahead n op
+falls n Find ok own h = chosen (ahead n) 5 ok (λ e. omega arith) (λ e. omega arith)
+falls n ReadNames ok own h = absurd (true≢false h)
+falls n Take ok own h = chosen (ahead n) 4 ok (λ e. omega arith) (λ e. omega arith)
+falls n Blocked ok own h = chosen (ahead n) 1 ok (λ e. omega arith) (λ e. omega arith)
+falls n FindAgain ok own h = chosen (ahead n) 3 ok (λ e. omega arith) (λ e. omega arith)
+falls n Settle ok own h = chosen (ahead n) 2 ok (λ e. omega arith) (λ e. omega arith)
+falls n (GiveBack k) ok own h = omega arith
+falls n Run ok own h = absurd (true≢false h)
+falls n (Make i) ok own h = absurd (true≢false h)
+falls n SyncNight ok own h = chosen (ahead n) (11 + n) ok (λ e. omega arith) (λ e. omega arith)
+falls n (Unlink i) ok own h = next-file (ahead n) n i (2 + (n - i)) (λ g. omega arith) (omega arith)
+falls n RemoveNight ok own h = omega arith
+falls n Commit ok own h = chosen (ahead n) (10 + n) ok (λ e. omega arith) (λ e. omega arith)
+falls n SyncCommit ok own h = chosen (ahead n) (9 + n) ok (λ e. omega arith) (λ e. omega arith)
+falls n (Put i) ok own h =
+    chosen (ahead n) (8 + (n - i)) ok (λ t. next-file (ahead n) n i (8 + (n - i)) (λ g. omega arith) (omega arith)) (λ e. omega arith)
+falls n SyncPlaces ok own h = chosen (ahead n) 7 ok (λ e. omega arith) (λ e. omega arith)
+falls n RemoveDone ok own h = chosen (ahead n) 6 ok (λ e. omega arith) (λ e. omega arith)
+falls n SyncLast ok own h = chosen (ahead n) 5 ok (λ t. chosen (ahead n) 5 own (λ e. omega arith) (λ e. omega arith)) (λ e. omega arith)
+falls n Placed ok own h = absurd (true≢false h)
+falls n (Refused k) ok own h = absurd (true≢false h)
+falls n (Stopped k) ok own h = absurd (true≢false h)
+
+pub makes-fall : (n : ℕ) (op : Op) (ok own : Bool) → isMake op ≡ true → toMake n (nextOp n op ok own) < toMake n op
+makes-fall n Find ok own h = absurd (true≢false (sym h))
+makes-fall n ReadNames ok own h = absurd (true≢false (sym h))
+makes-fall n Take ok own h = absurd (true≢false (sym h))
+makes-fall n Blocked ok own h = absurd (true≢false (sym h))
+makes-fall n FindAgain ok own h = absurd (true≢false (sym h))
+makes-fall n Settle ok own h = absurd (true≢false (sym h))
+makes-fall n (GiveBack k) ok own h = absurd (true≢false (sym h))
+makes-fall n Run ok own h = absurd (true≢false (sym h))
+makes-fall n (Make i) ok own h =
+    chosen (toMake n) (1 + (n - i)) ok (λ t. next-file (toMake n) n i (1 + (n - i)) (λ g. omega arith) (omega arith)) (λ e. omega arith)
+makes-fall n SyncNight ok own h = absurd (true≢false (sym h))
+makes-fall n (Unlink i) ok own h = absurd (true≢false (sym h))
+makes-fall n RemoveNight ok own h = absurd (true≢false (sym h))
+makes-fall n Commit ok own h = absurd (true≢false (sym h))
+makes-fall n SyncCommit ok own h = absurd (true≢false (sym h))
+makes-fall n (Put i) ok own h = absurd (true≢false (sym h))
+makes-fall n SyncPlaces ok own h = absurd (true≢false (sym h))
+makes-fall n RemoveDone ok own h = absurd (true≢false (sym h))
+makes-fall n SyncLast ok own h = absurd (true≢false (sym h))
+makes-fall n Placed ok own h = absurd (true≢false (sym h))
+makes-fall n (Refused k) ok own h = absurd (true≢false (sym h))
+makes-fall n (Stopped k) ok own h = absurd (true≢false (sym h))

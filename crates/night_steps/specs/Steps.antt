@@ -16,40 +16,40 @@ abbrev pub choice : Bool → Op → Op → Op
 choice true a b = a
 choice false a b = b
 
--- the same with the next of the five files, or what follows the last
-abbrev pub afterMake : ℕ → Op
-afterMake i = choice (ltb i 4) (Make (i + 1)) SyncNight
+-- the same with the next of n files, or what follows the last
+abbrev pub afterMake : ℕ → ℕ → Op
+afterMake n i = choice (ltb (i + 1) n) (Make (i + 1)) SyncNight
 
-abbrev pub afterPut : ℕ → Op
-afterPut i = choice (ltb i 4) (Put (i + 1)) SyncPlaces
+abbrev pub afterPut : ℕ → ℕ → Op
+afterPut n i = choice (ltb (i + 1) n) (Put (i + 1)) SyncPlaces
 
-abbrev pub afterUnlink : ℕ → Op
-afterUnlink i = choice (ltb i 4) (Unlink (i + 1)) RemoveNight
+abbrev pub afterUnlink : ℕ → ℕ → Op
+afterUnlink n i = choice (ltb (i + 1) n) (Unlink (i + 1)) RemoveNight
 
--- ok: the operation went well; own: this call has begun its own night. Before the commit a failure leads to the clean-up, from it on to a stop: a
+-- n: the files of the night; ok: the operation went well; own: this call has begun its own night. Before the commit a failure leads to the clean-up, from it on to a stop: a
 -- rename that reports failure may have been done
-abbrev pub nextOp : Op → Bool → Bool → Op
-nextOp Find ok own = choice ok Take ReadNames
-nextOp ReadNames ok own = choice ok SyncCommit (Stopped 33)
-nextOp Take ok own = choice ok FindAgain Blocked
-nextOp Blocked ok own = choice ok (Refused 35) (Refused 34)
-nextOp FindAgain ok own = choice ok Settle (GiveBack 35)
-nextOp Settle ok own = choice ok Run (GiveBack 34)
-nextOp (GiveBack k) ok own = Refused k
-nextOp Run ok own = choice ok (Make 0) RemoveNight
-nextOp (Make i) ok own = choice ok (afterMake i) (Unlink 0)
-nextOp SyncNight ok own = choice ok Commit (Unlink 0)
-nextOp (Unlink i) ok own = afterUnlink i
-nextOp RemoveNight ok own = Refused 34
-nextOp Commit ok own = choice ok SyncCommit (Stopped 34)
-nextOp SyncCommit ok own = choice ok (Put 0) (Stopped 34)
-nextOp (Put i) ok own = choice ok (afterPut i) (Stopped 34)
-nextOp SyncPlaces ok own = choice ok RemoveDone (Stopped 34)
-nextOp RemoveDone ok own = choice ok SyncLast (Stopped 34)
-nextOp SyncLast ok own = choice ok (choice own Placed Take) (Stopped 34)
-nextOp Placed ok own = Placed
-nextOp (Refused k) ok own = Refused k
-nextOp (Stopped k) ok own = Stopped k
+abbrev pub nextOp : ℕ → Op → Bool → Bool → Op
+nextOp n Find ok own = choice ok Take ReadNames
+nextOp n ReadNames ok own = choice ok SyncCommit (Stopped 33)
+nextOp n Take ok own = choice ok FindAgain Blocked
+nextOp n Blocked ok own = choice ok (Refused 35) (Refused 34)
+nextOp n FindAgain ok own = choice ok Settle (GiveBack 35)
+nextOp n Settle ok own = choice ok Run (GiveBack 34)
+nextOp n (GiveBack k) ok own = Refused k
+nextOp n Run ok own = choice ok (Make 0) RemoveNight
+nextOp n (Make i) ok own = choice ok (afterMake n i) (Unlink 0)
+nextOp n SyncNight ok own = choice ok Commit (Unlink 0)
+nextOp n (Unlink i) ok own = afterUnlink n i
+nextOp n RemoveNight ok own = Refused 34
+nextOp n Commit ok own = choice ok SyncCommit (Stopped 34)
+nextOp n SyncCommit ok own = choice ok (Put 0) (Stopped 34)
+nextOp n (Put i) ok own = choice ok (afterPut n i) (Stopped 34)
+nextOp n SyncPlaces ok own = choice ok RemoveDone (Stopped 34)
+nextOp n RemoveDone ok own = choice ok SyncLast (Stopped 34)
+nextOp n SyncLast ok own = choice ok (choice own Placed Take) (Stopped 34)
+nextOp n Placed ok own = Placed
+nextOp n (Refused k) ok own = Refused k
+nextOp n (Stopped k) ok own = Stopped k
 
 -- What an operation is in the model, by its answer. The model begins where a call has looked, taken STATE.night, looked again and brought the
 -- folder to the device, so these are no events of it. A Make that fails has come as far as it likes.
@@ -87,14 +87,14 @@ events Placed ok = []
 events (Refused k) ok = []
 events (Stopped k) ok = []
 
--- what a call does with these answers, k operations from op on; and the operation that it comes to
-abbrev pub walk : ℕ → (ℕ → Bool) → Bool → Op → List Deed
-walk zero answers own op = []
-walk (suc k) answers own op = events op (answers 0) ++ walk k (λ j. answers (suc j)) own (nextOp op (answers 0) own)
+-- what a call on n files does with these answers, k operations from op on; and the operation that it comes to
+abbrev pub walk : ℕ → ℕ → (ℕ → Bool) → Bool → Op → List Deed
+walk n zero answers own op = []
+walk n (suc k) answers own op = events op (answers 0) ++ walk n k (λ j. answers (suc j)) own (nextOp n op (answers 0) own)
 
-abbrev pub end : ℕ → (ℕ → Bool) → Bool → Op → Op
-end zero answers own op = op
-end (suc k) answers own op = end k (λ j. answers (suc j)) own (nextOp op (answers 0) own)
+abbrev pub end : ℕ → ℕ → (ℕ → Bool) → Bool → Op → Op
+end n zero answers own op = op
+end n (suc k) answers own op = end n k (λ j. answers (suc j)) own (nextOp n op (answers 0) own)
 
 -- an end, or an operation that is another function's to carry out
 abbrev pub waitsOf : Op → Bool

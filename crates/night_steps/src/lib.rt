@@ -3,7 +3,7 @@
 ghost use mathlib.Core.Path.{_≡_};
 ghost use Rattle.night_steps.specs.Steps.{choice, afterMake, afterPut, afterUnlink, nextOp, waitsOf, isMake};
 
-// The files of a night by number: 0 image, 1 state, 2 rest, 3 output, 4 names. The letters are the paragraphs of docs/NIGHT.md.
+// The files of a night by number: 0 image, 1 state, 2 rest, 3 output, 4 names, and from 5 on the further ones. The letters are the paragraphs of docs/NIGHT.md.
 pub enum Op {
     Find, // (a) well: STATE.done does not stand
     ReadNames, // (a) the names of the night that committed
@@ -37,36 +37,37 @@ fn choose(ok: bool, yes: Op, no: Op) -> Op
     no
 }
 
-fn after_make(i: u8) -> Op
-    ensures { λ r. ⌜ r ≡ afterMake i ⌝ }
+fn after_make(files: u8, i: u8) -> Op
+    ensures { λ r. ⌜ r ≡ afterMake files i ⌝ }
 {
-    if i < 4 {
+    if (i as u16) + 1 < (files as u16) {
         return Op::Make(i + 1);
     }
     Op::SyncNight
 }
 
-fn after_put(i: u8) -> Op
-    ensures { λ r. ⌜ r ≡ afterPut i ⌝ }
+fn after_put(files: u8, i: u8) -> Op
+    ensures { λ r. ⌜ r ≡ afterPut files i ⌝ }
 {
-    if i < 4 {
+    if (i as u16) + 1 < (files as u16) {
         return Op::Put(i + 1);
     }
     Op::SyncPlaces
 }
 
-fn after_unlink(i: u8) -> Op
-    ensures { λ r. ⌜ r ≡ afterUnlink i ⌝ }
+fn after_unlink(files: u8, i: u8) -> Op
+    ensures { λ r. ⌜ r ≡ afterUnlink files i ⌝ }
 {
-    if i < 4 {
+    if (i as u16) + 1 < (files as u16) {
         return Op::Unlink(i + 1);
     }
     Op::RemoveNight
 }
 
-// The operation after `op`, which went well or not; `own` says whether this call has begun its own night, or puts another's in place.
-pub fn next(op: Op, ok: bool, own: bool) -> Op
-    ensures { λ r. ⌜ r ≡ nextOp op ok own ⌝ }
+// The operation after `op`, which went well or not, of a night with so many files; `own` says whether this call has begun its own night, or puts
+// another's in place.
+pub fn next(files: u8, op: Op, ok: bool, own: bool) -> Op
+    ensures { λ r. ⌜ r ≡ nextOp files op ok own ⌝ }
 {
     match op {
         Op::Find => choose(ok, Op::Take, Op::ReadNames),
@@ -77,13 +78,13 @@ pub fn next(op: Op, ok: bool, own: bool) -> Op
         Op::Settle => choose(ok, Op::Run, Op::GiveBack(34)),
         Op::GiveBack(k) => Op::Refused(k),
         Op::Run => choose(ok, Op::Make(0), Op::RemoveNight),
-        Op::Make(i) => choose(ok, after_make(i), Op::Unlink(0)),
+        Op::Make(i) => choose(ok, after_make(files, i), Op::Unlink(0)),
         Op::SyncNight => choose(ok, Op::Commit, Op::Unlink(0)),
-        Op::Unlink(i) => after_unlink(i),
+        Op::Unlink(i) => after_unlink(files, i),
         Op::RemoveNight => Op::Refused(34),
         Op::Commit => choose(ok, Op::SyncCommit, Op::Stopped(34)),
         Op::SyncCommit => choose(ok, Op::Put(0), Op::Stopped(34)),
-        Op::Put(i) => choose(ok, after_put(i), Op::Stopped(34)),
+        Op::Put(i) => choose(ok, after_put(files, i), Op::Stopped(34)),
         Op::SyncPlaces => choose(ok, Op::RemoveDone, Op::Stopped(34)),
         Op::RemoveDone => choose(ok, Op::SyncLast, Op::Stopped(34)),
         Op::SyncLast => choose(ok, choose(own, Op::Placed, Op::Take), Op::Stopped(34)),

@@ -1,21 +1,27 @@
 -- The laws of a row that is written after others: the rows before it and all bytes after it stay, and it is read back. Assumes nothing.
-use Prim.Native.Nat.{ℕ, zero, suc, _+_, _*_, _-_, _/_, _%_, _^_, _≤_, _<_}
+use Prim.Native.Nat.{ℕ, zero, suc, _+_, _*_, _-_, _%_, _^_, _≤_, _<_}
 use native.Mathlib.Omega.{arith}
-use mathlib.Core.Bool.{true, _&&_}
-use mathlib.Core.List.{List, [], _∷_, _++_, append-assoc, append-nil}
+use mathlib.Core.Bool.{true}
+use mathlib.Core.List.{List, [], _++_, append-assoc, append-nil}
 use mathlib.Core.Path.{_≡_, refl, sym, ap, _∙_}
 use lib.ListN.{length, take, drop, getD, length-append, length-drop, drop-of-length-le, List·getD-append}
 use lib.Pow.{pow-pos}
 use lib.Seq.{take-all, take-at, drop-at, drop-drop, length-take-le, getD-append-add}
 use borrow.Author.Tests.{leb-true}
 use Rattle.numbers.specs.Numbers.{byteAt, littleEndian, over}
-use Rattle.numbers.proofs.Laws.{four-back}
+use Rattle.numbers.proofs.Laws.{four-back, Laid, laid-more}
 use Rattle.wake_log.specs.declared.Row.{Row}
 use Rattle.wake_log.specs.Log.{rowBytes, fitsRow, withRow, rowAt, isWake, isRow}
 
 pub row-long : (row : Row) → length (rowBytes row) ≡ 8
 unfolding littleEndian
 row-long row = refl
+
+-- a number put after others, as wide as the part that it is put into
+pub put-after : {buffer p l : List ℕ} {a : ℕ} → Laid buffer p a l → (k n : ℕ) {q : List ℕ}
+    → q ≡ littleEndian (length (take k (drop a l))) n → a + k ≤ length buffer
+    → Laid buffer (p ++ littleEndian k n) (a + k) (take a l ++ (q ++ drop k (drop a l)))
+put-after o k n e b = laid-more o k n b e
 
 -- the four numbers that are put are the row's bytes
 pub row-put : (row : Row) → row .cause < 256 → row .behind < 256

@@ -7,16 +7,15 @@ use Rattle.night_commit.proofs.carry.Statement.{statement}
 use Rattle.night_commit.proofs.carry.Tie as tie
 
 abbrev Inv-loop : tie.InvT-loop
-Inv-loop own state names op₀ op = Unit
+Inv-loop own state names files op₀ op = Unit
 
 abbrev μ-loop : tie.MeasureT-loop
-μ-loop own state names op₀ op = ahead op
+μ-loop own state names files op₀ op = ahead files op
 
 loop-less : tie.Need-loop-less Inv-loop μ-loop
 loop-less c =
-    let i = c .before .before .before in
-    rw (c .next .ensures) (falls (i .before .loop .op) (c .before .carry-out .result) (i .before .before .before .before .args .own)
-    (sym (i .waits .ensures) ∙ not-true _ (c .before .before .if1 .taken)))
+    rw (c .next .ensures) (falls (c .before .before .before .before .before .files .result) (c .before .before .before .before .loop .op) (c .before .carry-out .result) (c .before .before .before .before .before .before .before .before .args .own)
+    (sym (c .before .before .before .waits .ensures) ∙ not-true _ (c .before .before .if1 .taken)))
 
 returns : tie.Need-returns Inv-loop μ-loop
 returns c = sym (c .before .waits .ensures) ∙ not-false _ (c .if1 .left)
@@ -27,6 +26,7 @@ carry-spec =
     (tie.spec
     Inv-loop
     μ-loop
+    (λ c κs. search needs)  -- files-requires
     (λ c. tt)  -- loop-holds
     (λ c κs. search needs)  -- waits-requires
     (λ c κs. search needs)  -- carry-out-requires

@@ -7,15 +7,14 @@ use Rattle.night_commit.proofs.finish.Statement.{statement}
 use Rattle.night_commit.proofs.finish.Tie as tie
 
 abbrev Inv-loop : tie.InvT-loop
-Inv-loop ran state names image machine rest output op₀ op = Unit
+Inv-loop ran state names image machine rest output log files op₀ op = Unit
 
 abbrev μ-loop : tie.MeasureT-loop
-μ-loop ran state names image machine rest output op₀ op = toMake op
+μ-loop ran state names image machine rest output log files op₀ op = toMake files op
 
 loop-less : tie.Need-loop-less Inv-loop μ-loop
 loop-less c =
-    let i = c .before .before .before in
-    rw (c .next2 .ensures) (makes-fall (i .before .loop .op) (c .before .make-file .result) true (sym (i .is-make .ensures) ∙ c .before .before .if1 .taken))
+    rw (c .next2 .ensures) (makes-fall (c .before .before .before .before .before .before .files .result) (c .before .before .before .before .loop .op) (c .before .make-file .result) true (sym (c .before .before .before .is-make .ensures) ∙ c .before .before .if1 .taken))
 
 pub finish-spec : {M : Type 1} → statement M
 finish-spec =
@@ -23,6 +22,7 @@ finish-spec =
     (tie.spec
     Inv-loop
     μ-loop
+    (λ c κs. search needs)  -- files-requires
     (λ c κs. search needs)  -- next-requires
     (λ c. tt)  -- loop-holds
     (λ c κs. search needs)  -- is-make-requires

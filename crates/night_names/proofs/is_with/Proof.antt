@@ -1,7 +1,7 @@
 -- The name is compared with the joined one. Assumes nothing.
 use mathlib.Core.Path.{sym, ap, _∙_}
-use Rattle.night_names.specs.Names.{isWith, sameOf}
-use Rattle.night_arguments.specs.Arguments.{joinedOf}
+use Rattle.night_names.specs.Names.{isWith}
+use Rattle.night_arguments.specs.Arguments.{sameOf, joinedOf}
 use borrow.Author.Needs.{needs}
 use Rattle.night_names.proofs.is_with.Statement.{statement}
 use Rattle.night_names.proofs.is_with.Tie as tie

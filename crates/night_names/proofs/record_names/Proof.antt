@@ -1,4 +1,4 @@
--- The two last parts are joined. Assumes nothing.
+-- The last part of the image's name, with the output's after it. Assumes nothing.
 use mathlib.Core.Path.{_∙_}
 use Rattle.night_names.proofs.Laws.{names-is}
 use borrow.Author.Needs.{needs}
@@ -10,26 +10,9 @@ record-names-spec =
     tie.close
     (tie.spec
     (λ c κs. search needs)  -- last-at-requires
-    (λ c κs. search needs)  -- last-at-requires-2
-    (λ c κs. search needs)  -- buffer-requires
-    (λ c. search needs)  -- sub-joined
-    (λ c. search needs)  -- part-joined-start
-    (λ c. search needs)  -- part-joined-end
-    (λ c. search needs)  -- slice-aggregate-joined
-    (λ c. search needs)  -- slice-aggregate-joined-2
-    (λ c κs. search needs)  -- joined-requires
-    (λ c. search needs)  -- array-share-prefix-front
-    (λ c. search needs)  -- slice-aggregate-joined-3
-    (λ c. search needs)  -- sub-joined-2
-    (λ c. search needs)  -- part-joined-start-2
-    (λ c. search needs)  -- part-joined-end-2
-    (λ c κs. search needs)  -- joined-requires-2
+    (λ c. search needs)  -- sub-with-name
+    (λ c. search needs)  -- part-with-name-start
+    (λ c. search needs)  -- part-with-name-end
+    (λ c κs. search needs)  -- with-name-requires
     (λ c. search needs)  -- same-length
-    (λ c.
-    let j = c .before .before in
-    let i = j .before .before .before .before .before in
-    let b = i .before .before .before .before in (
-      j .joined2 .ensures .0,
-      j .joined2 .ensures .1
-          ∙ names-is _ _ _ (b .before .before .last-at .ensures .1) (b .before .last-at2 .ensures .1) (b .buffer .ensures) (i .joined .ensures .1),
-    )))  -- returns
+    (λ c. (c .before .before .with-name .ensures .0, c .before .before .with-name .ensures .1 ∙ names-is _ _ _ (c .before .before .before .before .before .last-at .ensures .1))))  -- returns

@@ -1,5 +1,4 @@
 -- `wake_log::is_wake` meets its contract: the same tests. Assumes nothing.
-use native.Mathlib.Omega.{arith}
 use borrow.Author.Needs.{needs}
 use borrow.Author.Tests.{le-leb, lt-leb}
 use Rattle.wake_log.specs.Log.{isWake}

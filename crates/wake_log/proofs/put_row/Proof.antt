@@ -4,8 +4,8 @@ use Prim.Native.Nat.{_<_}
 use mathlib.Core.Path.{ap, _∙_}
 use borrow.Author.Needs.{needs}
 use Rattle.numbers.specs.Numbers.{over}
-use Rattle.numbers.proofs.Laws.{laid-none, laid-more}
-use Rattle.wake_log.proofs.Laws.{row-put}
+use Rattle.numbers.proofs.Laws.{laid-none}
+use Rattle.wake_log.proofs.Laws.{put-after, row-put}
 use Rattle.wake_log.proofs.put_row.Statement.{statement}
 use Rattle.wake_log.proofs.put_row.Tie as tie
 
@@ -40,10 +40,10 @@ put-row-spec =
     let c0 = c1 .before .before .before .before in
     let b = c0 .pre in
     let row = c0 .args .row in
-    let l1 = laid-more (laid-none (c0 .args .part .now)) 4 _ (omega arith) (c1 .put .ensures) in
-    let l2 = laid-more l1 1 _ (omega arith) (c2 .put2 .ensures) in
-    let l3 = laid-more l2 1 _ (omega arith) (c3 .put3 .ensures) in
-    let l4 = laid-more l3 2 _ (omega arith) (c .before .before .put4 .ensures) in
+    let l1 = put-after (laid-none (c0 .args .part .now)) _ _ (c1 .put .ensures) (omega arith) in
+    let l2 = put-after l1 _ _ (c2 .put2 .ensures) (omega arith) in
+    let l3 = put-after l2 _ _ (c3 .put3 .ensures) (omega arith) in
+    let l4 = put-after l3 _ _ (c .before .before .put4 .ensures) (omega arith) in
     let h : row .cause < 256 = search needs in
     let g : row .behind < 256 = search needs in
     l4 .same ∙ ap (λ p. over p (c0 .args .part .now)) (row-put row h g)))  -- returns

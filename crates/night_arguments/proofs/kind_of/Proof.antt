@@ -1,0 +1,23 @@
+-- One text after another. Assumes nothing.
+use borrow.Author.Needs.{needs}
+use borrow.Author.Tests.{not-true, not-false}
+use Rattle.night_arguments.specs.Options.{kindOf}
+use Rattle.night_arguments.proofs.kind_of.Statement.{statement}
+use Rattle.night_arguments.proofs.kind_of.Tie as tie
+
+pub kind-of-spec : {M : Type 1} → statement M
+unfolding kindOf
+kind-of-spec =
+    tie.close
+    (tie.spec
+    (λ c κs. search needs)  -- front-requires
+    (λ c. search needs)  -- slice-aggregate-same
+    (λ c κs. search needs)  -- same-requires
+    (λ c. rw (← c .before .before .before .front .ensures, ← c .before .same .ensures, c .if1 .taken))  -- returns
+    (λ c. search needs)  -- slice-aggregate-same-2
+    (λ c κs. search needs)  -- same-requires-2
+    (λ c. rw (← c .before .before .before .before .before .before .front .ensures, ← c .before .before .before .before .same .ensures, c .before .before .before .if1 .left, ← c .before .same2 .ensures, c .if2 .taken))  -- returns-2
+    (λ c. search needs)  -- slice-aggregate-same-3
+    (λ c κs. search needs)  -- same-requires-3
+    (λ c. rw (← c .before .before .before .before .before .before .before .before .before .front .ensures, ← c .before .before .before .before .before .before .before .same .ensures, c .before .before .before .before .before .before .if1 .left, ← c .before .before .before .before .same2 .ensures, c .before .before .before .if2 .left, ← c .before .same3 .ensures, c .if3 .taken))  -- returns-3
+    (λ c. rw (← c .before .before .before .before .before .before .before .before .before .front .ensures, ← c .before .before .before .before .before .before .before .same .ensures, c .before .before .before .before .before .before .if1 .left, ← c .before .before .before .before .same2 .ensures, c .before .before .before .if2 .left, ← c .before .same3 .ensures, c .if3 .left)))  -- returns-4
