@@ -1,14 +1,16 @@
 -- What a public run leaves behind: nothing changed and all counts zero after 1 to 7; and, whatever the reply, the bytes of the output
--- after the sent ones, the lengths, the machine's ranges and the bounds of the counts. Assumes nothing.
-use Prim.Native.Nat.{_+_, _≤_}
+-- after the sent ones and of the log after its rows, the lengths, the machine's ranges and the bounds of the counts. Assumes nothing.
+use Prim.Native.Nat.{ℕ, _+_, _*_, _≤_}
 use native.Mathlib.Omega.{arith}
-use mathlib.Core.Path.{_≡_, refl, subst, sym}
-use mathlib.Core.List.{_++_}
-use lib.ListN.{length, take, drop}
+use mathlib.Core.Bool.{Bool, true, false, cond}
+use mathlib.Core.Path.{_≡_, refl, subst, sym, ap, _∙_}
+use mathlib.Core.List.{List, _++_}
+use lib.ListN.{length, take, drop, take-append-drop}
+use lib.Seq.{length-take-le}
 use Rattle.machine.specs.declared.Machine.{Machine}
 use Rattle.machine.specs.Machine.{Ranges}
 use Rattle.machine.proofs.Ranges.{ranges-say, say-ranges}
-use Rattle.boundary.specs.World.{Lent, Terms}
+use Rattle.boundary.specs.World.{Lent, Terms, loggedBytes, World}
 use Rattle.boundary.specs.Start.{startWorld, ranOf}
 use Rattle.boundary_theorems.specs.Trace as trace
 use Rattle.turns.specs.Recorded.{total}
@@ -19,10 +21,37 @@ use Rattle.boundary.proofs.Kept.{image-length, cycles-bound}
 use Rattle.boundary_theorems.proofs.InRanges.{run-ranges}
 use Rattle.boundary_theorems.proofs.Trace.{counts-told}
 use Rattle.boundary_theorems.proofs.Tallies.{amounts-told}
+use Rattle.log_theorems.proofs.Log as log
 use Rattle.replies.specs.Replies.{Told}
 use Rattle.cabinet.specs.Answers.{End, Answer, answerAt, answerOf, leapsOf}
 use Rattle.cabinet.proofs.Ends.{end-cases, left-cases}
 use Rattle.cabinet_theorems.proofs.Exactly.{stop-number, Admitted, admitted-end}
+
+-- A buffer that was `before` is `after` with its first k bytes filled: they are within it, it keeps its length, and the bytes after them are
+-- unchanged.
+abbrev pub Part : List ℕ → List ℕ → ℕ → Type 0
+Part before after k =
+    (k ≤ length before) × (length after ≡ length before) × (length (take k after) ≡ k) × (after ≡ take k after ++ drop k before)
+
+-- the log of the run itself: eight bytes for each entry where the log is asked for, else none
+pub log-part : (t : Terms) (m : Machine) (l : Lent)
+    → let w = ranOf t m l .world in Part (l .log) (w .lent .log) (loggedBytes (t .watch) (w .state .entries .0))
+log-part t m l = by (t .watch .log) refl
+  where
+    w : World
+    w = ranOf t m l .world
+
+    by : (b : Bool) → t .watch .log ≡ b → Part (l .log) (w .lent .log) (cond b (8 * w .state .entries .0) 0)
+    by true e =
+        let k = 8 * w .state .entries .0 in
+        let r = log.log-room t m l e in
+        let long = log.log-length t m l e in (
+          r,
+          long,
+          length-take-le k (w .lent .log) (omega (arith, r, long)),
+          sym (take-append-drop k (w .lent .log)) ∙ ap (λ (d : List ℕ). take k (w .lent .log) ++ d) (log.log-rest t m l e),
+        )
+    by false e = let same = log.log-untouched t m l e in (omega arith, ap length same, refl, same)
 
 module _ (asked : Terms) (m : Machine) (given : Lent) where
   -- the answer that nothing ran
@@ -49,19 +78,23 @@ module _ (asked : Terms) (m : Machine) (given : Lent) where
       (omega arith)
       (λ f. leap-bound asked m given)
 
-  -- the sent bytes are within the output, which keeps its length, and the bytes after them are unchanged
-  pub output-left : let a = answerOf asked m given in
-      (a .sent ≤ length (given .output))
-      × (length (a .lent .output) ≡ length (given .output))
-      × (length (take (a .sent) (a .lent .output)) ≡ a .sent)
-      × (a .lent .output ≡ take (a .sent) (a .lent .output) ++ drop (a .sent) (given .output))
+  -- "the caller gets back the filled part of the output it lent; bytes after it are unchanged"
+  pub output-left : let a = answerOf asked m given in Part (given .output) (a .lent .output) (a .sent)
   output-left =
-      left-cases asked m given
-      (λ w. let k = w .state .sent .0 in
-      let o = w .lent .output in
-      (k ≤ length (given .output)) × (length o ≡ length (given .output)) × (length (take k o) ≡ k) × (o ≡ take k o ++ drop k (given .output)))
+      left-cases asked m given (λ w. Part (given .output) (w .lent .output) (w .state .sent .0))
       (omega arith, refl, refl, refl)
       (λ f. filled-part asked m given)
+
+  -- "The log may have any length .. Bytes after the rows are unchanged": and all bytes where the log is not asked for
+  pub log-left : let a = answerOf asked m given in Part (given .log) (a .lent .log) (loggedBytes (asked .watch) (a .entries))
+  log-left =
+      left-cases asked m given (λ w. Part (given .log) (w .lent .log) (loggedBytes (asked .watch) (w .state .entries .0)))
+      (start (asked .watch .log))
+      (λ f. log-part asked m given)
+    where
+      start : (b : Bool) → Part (given .log) (given .log) (cond b (8 * 0) 0)
+      start true = (omega arith, refl, refl, refl)
+      start false = (omega arith, refl, refl, refl)
 
   pub image-left : length (answerOf asked m given .lent .image) ≡ length (given .image)
   image-left =

@@ -1,5 +1,5 @@
--- The wake log of a public run, by 02: what is left of it; that without it "the run itself reads as before", and with room enough too; 11
--- exactly when, by the run without the log; and which rows are in it. Assumes nothing.
+-- The wake log of a public run, by 02: without it "the run itself reads as before", and with room enough too; 11 exactly when, by the run
+-- without the log; and which rows are in it. What is left of its bytes is in Left.antt. Assumes nothing.
 use Prim.Native.Nat.{ℕ, _*_, _/_, _≤_, _<_}
 use native.Mathlib.Omega.{arith}
 use mathlib.Core.Path.{_≡_, refl, sym, ap, subst, _∙_}
@@ -7,96 +7,32 @@ use mathlib.Core.Bool.{Bool, true, false, cond, false≢true}
 use mathlib.Core.List.{List, [], _++_}
 use mathlib.Core.Logic.{_↔_, _⊎_, inl, inr, ⊎-elim}
 use mathlib.Core.Option.{Option, none, some}
-use lib.ListN.{length, take, drop, take-append-drop}
-use lib.Seq.{length-take-le}
-use Rattle.turns.specs.Turn.{Turn, more, done}
-use Rattle.turns.proofs.Beside.{Both, loop-beside}
+use lib.ListN.{length, take, drop}
+use Rattle.turns.specs.Turn.{more}
 use Rattle.machine.specs.declared.Machine.{Machine}
-use Rattle.machine.specs.declared.Pending.{Pending}
-use Rattle.machine.specs.declared.Pending.the-variants.{Nothing, Due}
-use Rattle.machine.specs.Interrupts.{pendingOf}
 use Rattle.replies.specs.Replies.{Told, told}
 use Rattle.boundary.specs.declared.Stop.{Stop}
 use Rattle.boundary.specs.declared.Stop.the-variants.{Limit, Undefined, Full, LogFull}
-use Rattle.boundary.specs.World.{Lent, lent, withLog, Terms, terms, loggedBytes, World, Ended}
-use Rattle.boundary.specs.Boundary.{fedWorld, sentWorld, loggedOf, onPending, actOf, sendOf, boundaryOf, runOf}
+use Rattle.boundary.specs.World.{Lent, lent, withLog, Terms, terms, loggedBytes, Ended}
 use Rattle.boundary.specs.Start.{startWorld, ranOf}
-use Rattle.boundary.proofs.Runs.{run-falls}
 use Rattle.log_theorems.specs.Wakes.{wakesOf, rowsBytes, logging, endedWith}
-use Rattle.log_theorems.proofs.Log as log
+use Rattle.log_theorems.proofs.Ordinary.{ordinary-run}
+use Rattle.log_theorems.proofs.Log.{log-filled}
+use Rattle.log_theorems.proofs.Watching as watching
+use Rattle.log_theorems.proofs.Watching.{log-unread, logged-ends, rows-first, log-first}
+use Rattle.log_theorems.proofs.Rows as rows
 use Rattle.cabinet.specs.Answers.{toldStop, refusalOf, End, endAt, onRefusal, endOf, Answer, answerAt, answerOf, leapsOf}
-use Rattle.cabinet.proofs.Ends.{end-cases, left-cases}
+use Rattle.cabinet.proofs.Ends.{end-cases}
+use Rattle.cabinet_theorems.proofs.Left.{log-left}
 use Rattle.cabinet_theorems.proofs.Exactly.{fault-number, number, stop-known, Admitted, admitted-end, reply-11}
-
--- A log that was `before` is `after` with k bytes filled: there was room, the length is kept, and the bytes after them are unchanged.
-abbrev Part : List ℕ → List ℕ → ℕ → Type 0
-Part before after k =
-    (k ≤ length before) × (length after ≡ length before) × (length (take k after) ≡ k) × (after ≡ take k after ++ drop k before)
-
--- .. of the run itself: eight bytes for each entry where the log is asked for, else none
-pub log-part : (t : Terms) (m : Machine) (l : Lent)
-    → let w = ranOf t m l .world in Part (l .log) (w .lent .log) (loggedBytes (t .watch) (w .state .entries .0))
-log-part t m l = by (t .watch .log) refl
-  where
-    w : World
-    w = ranOf t m l .world
-
-    by : (b : Bool) → t .watch .log ≡ b → Part (l .log) (w .lent .log) (cond b (8 * w .state .entries .0) 0)
-    by true e =
-        let k = 8 * w .state .entries .0 in
-        let r = log.log-room t m l e in
-        let long = log.log-length t m l e in (
-          r,
-          long,
-          length-take-le k (w .lent .log) (omega (arith, r, long)),
-          sym (take-append-drop k (w .lent .log)) ∙ ap (λ (d : List ℕ). take k (w .lent .log) ++ d) (log.log-rest t m l e),
-        )
-    by false e = let same = log.log-untouched t m l e in (omega arith, ap length same, refl, same)
-
--- where the log is not asked for, nothing of a run counts the cycles before it
-module _ (t : Terms) where
-  -- "the run": what both forms are that know of no log
-  abbrev ordinary : Terms
-  ordinary = terms (t .session) (t .limit)
-
-  abbrev silent : Terms
-  silent = logging false t
-
-  act-same : (w : World) → actOf (silent .watch) w ≡ actOf (ordinary .watch) w
-  unfolding actOf loggedOf
-  act-same w = by (pendingOf (w .state .machine))
-    where
-      by : (p : Pending) → onPending (silent .watch) p w ≡ onPending (ordinary .watch) p w
-      by (Due cause) = refl
-      by Nothing = refl
-
-  boundary-same : (w : World) → boundaryOf silent w ≡ boundaryOf ordinary w
-  unfolding boundaryOf sendOf
-  boundary-same w =
-      let f = fedWorld (t .session) w in
-      rw (act-same (sentWorld f), act-same f)
-
-  run-same : (w : World) → runOf silent w ≡ runOf ordinary w
-  unfolding runOf
-  run-same w =
-      loop-beside (boundaryOf silent) _ _ (run-falls silent) (boundaryOf ordinary) _ _ (run-falls ordinary) _≡_ _≡_ both w w refl
-    where
-      alike : (x : Turn World Ended) → Both _≡_ _≡_ x x
-      alike (more v) = refl
-      alike (done e) = refl
-
-      both : (v u : World) → v ≡ u → Both _≡_ _≡_ (boundaryOf silent v) (boundaryOf ordinary u)
-      both v u e =
-          subst (λ (x : World). Both _≡_ _≡_ (boundaryOf silent v) (boundaryOf ordinary x)) e
-          (subst (Both _≡_ _≡_ (boundaryOf silent v)) (boundary-same v) (alike (boundaryOf silent v)))
 
 -- a run that is not stopped with 11 is the run without a log, in all but the log
 module _ (t : Terms) (m : Machine) (l : Lent) where
   abbrev Runs : Ended → Type 0
-  Runs e = ranOf (ordinary t) m (lent (l .image) (l .output)) ≡ endedWith [] e
+  Runs e = ranOf (terms (t .session) (t .limit)) m (lent (l .image) (l .output)) ≡ endedWith [] e
 
-  silent-runs : Runs (ranOf (silent t) m l)
-  silent-runs = sym (run-same t (startWorld m (lent (l .image) (l .output)))) ∙ log.log-unread t m l []
+  silent-runs : Runs (ranOf (logging false t) m l)
+  silent-runs = sym (ordinary-run t (startWorld m (lent (l .image) (l .output)))) ∙ log-unread t m l []
 
   enough-runs : (ranOf t m l .stop ≡ LogFull → ⊥) → Runs (ranOf t m l)
   enough-runs = by (t .watch .log) refl
@@ -105,7 +41,7 @@ module _ (t : Terms) (m : Machine) (l : Lent) where
       P x = (ranOf x m l .stop ≡ LogFull → ⊥) → Runs (ranOf x m l)
 
       by : (b : Bool) → t .watch .log ≡ b → P t
-      by true e = subst P (sym (ap (λ (b : Bool). logging b t) e)) (λ n. silent-runs ∙ ap (endedWith []) (log.logged-ends t m l n))
+      by true e = subst P (sym (ap (λ (b : Bool). logging b t) e)) (λ n. silent-runs ∙ ap (endedWith []) (logged-ends t m l n))
       by false e = subst P (sym (ap (λ (b : Bool). logging b t) e)) (λ n. silent-runs)
 
 -- an answer with another log
@@ -123,23 +59,15 @@ answerWith log a =
     }
 
 module _ (asked : Terms) (m : Machine) (given : Lent) where
-  -- "The log may have any length .. Bytes after the rows are unchanged": and all bytes where the log is not asked for
-  pub log-left : let a = answerOf asked m given in Part (given .log) (a .lent .log) (loggedBytes (asked .watch) (a .entries))
-  log-left =
-      left-cases asked m given (λ w. Part (given .log) (w .lent .log) (loggedBytes (asked .watch) (w .state .entries .0)))
-      (start (asked .watch .log))
-      (λ f. log-part asked m given)
-    where
-      start : (b : Bool) → Part (given .log) (given .log) (cond b (8 * 0) 0)
-      start true = (omega arith, refl, refl, refl)
-      start false = (omega arith, refl, refl, refl)
-
   -- the ordinary run: it is asked for no log, and lent none
+  abbrev ordinary : Terms
+  ordinary = terms (asked .session) (asked .limit)
+
   abbrev pub plainAnswer : Answer
-  plainAnswer = answerOf (ordinary asked) m (lent (given .image) (given .output))
+  plainAnswer = answerOf ordinary m (lent (given .image) (given .output))
 
   abbrev pub plainLeaps : ℕ
-  plainLeaps = leapsOf (ordinary asked) m (lent (given .image) (given .output))
+  plainLeaps = leapsOf ordinary m (lent (given .image) (given .output))
 
   abbrev Plain : Type 0
   Plain = (plainAnswer ≡ answerWith [] (answerOf asked m given)) × (plainLeaps ≡ leapsOf asked m given)
@@ -151,7 +79,7 @@ module _ (asked : Terms) (m : Machine) (given : Lent) where
     where
       by : (o : Option Told)
           → let x = onRefusal o (startWorld m given) (ranOf asked m given) in
-          let p = onRefusal o (startWorld m (lent (given .image) (given .output))) (ranOf (ordinary asked) m (lent (given .image) (given .output))) in
+          let p = onRefusal o (startWorld m (lent (given .image) (given .output))) (ranOf ordinary m (lent (given .image) (given .output))) in
           (x .reply ≡ told 11 none → ⊥) → (answerAt p ≡ answerWith [] (answerAt x)) × (p .world .state .leaps .0 ≡ x .world .state .leaps .0)
       by (some r) n = (refl, refl)
       by none n =
@@ -165,7 +93,7 @@ module _ (asked : Terms) (m : Machine) (given : Lent) where
       → (answerOf asked m given ≡ answerWith (given .log) plainAnswer) × (leapsOf asked m given ≡ plainLeaps)
   unlogged e =
       let p = enough (λ r. false≢true (sym e ∙ reply-11 asked m given .0 r .1 .3)) in
-      let kept : answerOf asked m given .lent .log ≡ given .log = log-left .3 ∙ none-filled in (
+      let kept : answerOf asked m given .lent .log ≡ given .log = log-left asked m given .3 ∙ none-filled in (
         ap (λ (log : List ℕ). answerWith log (answerOf asked m given)) kept ∙ ap (answerWith (given .log)) (sym (p .0)),
         sym (p .1),
       )
@@ -201,13 +129,13 @@ module _ (asked : Terms) (m : Machine) (given : Lent) where
     loggedAnswer = answerOf asked m given
 
     filled : 8 * loggedAnswer .entries ≤ length (given .log)
-    filled = let n = ap (λ (b : Bool). cond b (8 * loggedAnswer .entries) 0) e in let l = log-left .0 in omega (arith, n, l)
+    filled = let n = ap (λ (b : Bool). cond b (8 * loggedAnswer .entries) 0) e in let l = log-left asked m given .0 in omega (arith, n, l)
 
     -- 11 comes where the rows fill the log
     pub full-11 : answerOf asked m given .reply ≡ told 11 none → answerOf asked m given .entries ≡ length (given .log) / 8
     full-11 r =
         let s = reply-11 asked m given .0 r .1 .4 in
-        let long = log-left .1 in
+        let long = log-left asked m given .1 in
         let f = filled in
         omega (arith, s, long, f)
 
@@ -216,8 +144,8 @@ module _ (asked : Terms) (m : Machine) (given : Lent) where
         let h = reply-11 asked m given .0 r .0 in
         let p = h .0 in
         let stop = stop-known (ranOf asked m given .stop) LogFull (ap (λ (x : End). x .reply) (sym (admitted-end asked m given h)) ∙ r) in
-        let more = log.exactly-11 asked m given .0 (ap (λ (t : Terms). ranOf t m given .stop) as-logging ∙ stop) in
-        let plain = admitted-end (ordinary asked) m (lent (given .image) (given .output))
+        let more = watching.exactly-11 asked m given .0 (ap (λ (t : Terms). ranOf t m given .stop) as-logging ∙ stop) in
+        let plain = admitted-end ordinary m (lent (given .image) (given .output))
         (record { image-long = p .image-long; in-ranges = p .in-ranges; within = p .within }, h .1) in
         let same = ap (λ (x : End). x .world .state .entries .0) plain in
         let silent = ap (λ (x : Ended). x .world .state .entries .0) (silent-runs asked m given) in
@@ -239,13 +167,28 @@ module _ (asked : Terms) (m : Machine) (given : Lent) where
         take (8 * a .entries) (a .lent .log) ≡ rowsBytes (take (length (given .log) / 8) (wakesOf (logging false asked) (startWorld m given)))
     rows-told h =
         let first = subst (λ (t : Terms). wakesOf t (startWorld m given) ≡ take (length (given .log) / 8) (wakesOf (logging false asked) (startWorld m given)))
-        as-logging (log.rows-first asked m given) in
+        as-logging (rows-first asked m given) in
         subst
         (λ (x : End).
         take (8 * x .world .state .entries .0) (x .world .lent .log)
         ≡ rowsBytes (take (length (given .log) / 8) (wakesOf (logging false asked) (startWorld m given))))
         (sym (admitted-end asked m given h))
-        (log.log-filled asked m given e ∙ ap rowsBytes first)
+        (log-filled asked m given e ∙ ap rowsBytes first)
+
+    -- each row tells an entry of the run: its number, its cycle, the cause, first in 01's order of those that held, and the others that held behind it
+    pub each-row : (k : ℕ) → k < answerOf asked m given .entries
+        → rows.Told asked m given k × (answerOf asked m given .lent .log ≡ ranOf asked m given .world .lent .log)
+    each-row k =
+        end-cases asked m given
+        (λ x. k < x .world .state .entries .0 → rows.Told asked m given k × (x .world .lent .log ≡ ranOf asked m given .world .lent .log))
+        (λ l h. absurd (none h))
+        (λ l r h. absurd (none h))
+        (λ l r b h. absurd (none h))
+        (λ p f d h. absurd (none h))
+        (λ p s h. (rows.row-told asked m given e k h, refl))
+      where
+        none : k < 0 → ⊥
+        none h = omega (arith, h)
 
     -- of two logs the shorter has the first rows of the longer
     pub first-rows : (longer : List ℕ) → length (given .log) ≤ length longer
@@ -264,4 +207,4 @@ module _ (asked : Terms) (m : Machine) (given : Lent) where
             (λ (t : Terms).
             let w = ranOf t m given .world in
             take (8 * w .state .entries .0) (w .lent .log) ≡ take (8 * w .state .entries .0) (ranOf t m (withLog given longer) .world .lent .log))
-            as-logging (log.log-first asked m given longer h)
+            as-logging (log-first asked m given longer h)

@@ -4,12 +4,13 @@ use Prim.Native.Nat.{_+_, _*_, _≤_, _<_}
 use native.Mathlib.Omega.{arith}
 use mathlib.Core.Path.{_≡_, refl, sym, _∙_}
 use mathlib.Core.Bool.{true, false, true≢false}
-use Rattle.laws.proofs.Apart.{apart}
-use Rattle.laws.proofs.Bools.{both}
 use lib.Dec.{leb}
 use lib.ListN.{length}
 use borrow.Author.Tests.{leb-true, leb-false, not-true}
 use Rattle.turns.specs.Turn.{Turn, Then}
+use Rattle.laws.proofs.Apart.{apart}
+use Rattle.laws.proofs.Bools.{both}
+use Rattle.laws.proofs.Conds.{cases}
 use Rattle.registers.specs.Registers.{idles}
 use Rattle.serial.specs.Serial.{wantsToSend}
 use Rattle.machine.specs.declared.Pending.{Pending}
@@ -23,7 +24,6 @@ use Rattle.boundary.specs.declared.Stop.{Stop}
 use Rattle.boundary.specs.declared.Stop.the-variants.{Limit, Undefined, Full, LogFull}
 use Rattle.boundary.specs.World.{Terms, World, Ended, memoriesIn}
 use Rattle.boundary.specs.Boundary.{due, fedWorld, sendsOf, sentState, sentWorld, lacksRow, executedOf, onPending, actOf, sendOf, boundaryOf, runOf}
-use Rattle.laws.proofs.Conds.{cases}
 use Rattle.boundary.proofs.Runs.{run-keeps}
 use Rattle.log_theorems.proofs.Ready.{Ready, fed-ready, sent-ready}
 use Rattle.cabinet.specs.Answers.{Answer, toldStop, endAt, answerAt}
@@ -49,9 +49,6 @@ Shows asked LogFull a =
     × (length (a .lent .log) < 8 * a .entries + 8)
 
 module _ (asked : Terms) (a : Answer) where
-  abbrev Once : Stop → Stop → Type 0
-  Once j k = Shows asked j a → Shows asked k a → j ≡ k
-
   -- at the limit, and below it
   apart-cycles : {R : Type 0} → asked .limit ≤ a .cycles → a .cycles < asked .limit → R
   apart-cycles l b = absurd (let z : ⊥ = omega arith in z)
@@ -60,7 +57,7 @@ module _ (asked : Terms) (a : Answer) where
   apart-sending : {R : Type 0} → wantsToSend (a .machine .chip .bus .serial) ≡ true → wantsToSend (a .machine .chip .bus .serial) ≡ false → R
   apart-sending s r = absurd (true≢false (sym s ∙ r))
 
-  pub shown-once : (j k : Stop) → Once j k
+  pub shown-once : (j k : Stop) → Shows asked j a → Shows asked k a → j ≡ k
   shown-once Limit Limit p q = refl
   shown-once Limit Undefined p q = apart-cycles p (q .0)
   shown-once Limit Full p q = apart-cycles p (q .0)

@@ -27,7 +27,7 @@ use Rattle.cabinet.specs.declared.Ran.{Ran}
 use Rattle.cabinet.specs.Answers.{toldStop, End, endAt, endOf, Answer, answerAt, answered, answerOf, leapsOf}
 use Rattle.cabinet.proofs.Ends.{end-cases}
 use Rattle.cabinet_theorems.proofs.Exactly.{Admitted, admitted-end}
-use Rattle.cabinet_theorems.proofs.Log.{log-left}
+use Rattle.cabinet_theorems.proofs.Left.{log-left}
 use Rattle.cabinet_theorems.proofs.Settled.{Single}
 use Rattle.rest.specs.Rest.{restOf}
 use Rattle.rest.specs.Answers.{restWrote, restAnswer, restBuffer}

@@ -2,9 +2,9 @@
 -- passes where 11 stopped it. A run with a limit no lower passes where 0 or 11 stopped the first. Assumes nothing.
 use Prim.Native.Nat.{ℕ, _*_, _≤_}
 use native.Mathlib.Omega.{arith}
-use mathlib.Core.List.{List, [], _++_}
+use mathlib.Core.List.{List, _++_}
 use mathlib.Core.Path.{_≡_, refl, sym, ap, subst, _∙_}
-use mathlib.Core.Bool.{Bool, true, false, cond, false≢true}
+use mathlib.Core.Bool.{Bool, true, false, cond}
 use lib.ListN.{length, take, drop, length-append}
 use lib.Seq.{length-take-le, take-at, drop-at}
 use Rattle.machine.specs.declared.Machine.{Machine}
@@ -17,8 +17,9 @@ use Rattle.boundary.specs.Boundary.{runOf}
 use Rattle.boundary.specs.Start.{startWorld, ranOf}
 use Rattle.log_theorems.specs.Wakes.{rowsBytes, loggedRows, relogged, endedWith, wakesOf}
 use Rattle.log_theorems.proofs.Bytes.{rows-long}
-use Rattle.log_theorems.proofs.Beside.{Written, Follows, follows}
-use Rattle.cabinet_theorems.proofs.Log.{log-part}
+use Rattle.log_theorems.proofs.Beside.{Follows, follows}
+use Rattle.log_theorems.proofs.Log.{rows-entries, log-left, log-room}
+use Rattle.cabinet_theorems.proofs.Left.{log-part}
 use Rattle.composing.proofs.Further.{not-log-full, run-further, run-same}
 
 -- rows in a log, and in another log that is fresh behind them
@@ -43,11 +44,8 @@ module _ (t : Terms) (m : Machine) (given : Lent) where
   rows = wakesOf t (startWorld m given)
 
   -- how many bytes of the log are filled
-  abbrev pub logged : ℕ
+  abbrev logged : ℕ
   logged = loggedBytes (t .watch) (end .world .state .entries .0)
-
-  wrote : Written asked 0 (given .log) rows (end .world)
-  wrote = follows t asked false (startWorld m given) [] (λ f. absurd (false≢true f)) (λ _. omega arith) .written
 
   module _ (fresh : List ℕ) where
     -- the log in whose room the first run goes as it did, and that log where the first run ended
@@ -59,8 +57,7 @@ module _ (t : Terms) (m : Machine) (given : Lent) where
 
     fresh-room : asked ≡ true → 8 * end .world .state .entries .0 ≤ length freshLog
     fresh-room a =
-        let n = end .world .state .entries .0 in
-        let e : logged ≡ 8 * n = ap (λ (b : Bool). cond b (8 * n) 0) a in
+        let e = ap (λ (b : Bool). cond b (8 * end .world .state .entries .0) 0) a in
         let l = length-append (take logged (given .log)) fresh in
         let h = length-take-le logged (given .log) (log-part t m given .0) in
         omega (arith, e, l, h)
@@ -70,15 +67,15 @@ module _ (t : Terms) (m : Machine) (given : Lent) where
 
     fresh-log : loggedRows asked 0 rows freshLog ≡ take logged (end .world .lent .log) ++ fresh
     fresh-log =
-        let e = wrote .entries in
+        let e = rows-entries t m given in
         let r = rows-long rows in
-        fresh-rows asked rows (given .log) fresh (end .world .state .entries .0) (omega (arith, e, r)) (λ a. let h = wrote .room a in omega (arith, e, h))
-        ∙ ap (λ (log : List ℕ). take logged log ++ fresh) (sym (wrote .same))
+        fresh-rows asked rows (given .log) fresh (end .world .state .entries .0) (omega (arith, e, r)) (log-room t m given)
+        ∙ ap (λ (log : List ℕ). take logged log ++ fresh) (sym (log-left t m given))
 
-    pub ends-fresh : (end .stop ≡ LogFull → ⊥) → ranOf t m (withLog given freshLog) ≡ endedOf (end .stop) freshWorld
+    ends-fresh : (end .stop ≡ LogFull → ⊥) → ranOf t m (withLog given freshLog) ≡ endedOf (end .stop) freshWorld
     ends-fresh n = goes .ended n .0 ∙ ap (λ (log : List ℕ). endedWith log end) fresh-log
 
-    pub passes-fresh : end .stop ≡ LogFull → ranOf t m (withLog given freshLog) ≡ runOf t freshWorld
+    passes-fresh : end .stop ≡ LogFull → ranOf t m (withLog given freshLog) ≡ runOf t freshWorld
     passes-fresh e = goes .passed e .0 .0 ∙ ap (λ (log : List ℕ). runOf t (relogged log (end .world))) fresh-log
 
 -- 0 and 11

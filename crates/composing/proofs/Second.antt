@@ -22,7 +22,7 @@ use Rattle.rest.specs.Ahead.{SoundFrom}
 use Rattle.rest.proofs.Places.{place-next, place-sound}
 use Rattle.rest.proofs.Laws.{rest-length}
 use Rattle.rest.proofs.Matched.{Matched, rest-matched, rest-sound}
-use Rattle.cabinet_theorems.proofs.Log.{log-part}
+use Rattle.cabinet_theorems.proofs.Left.{log-part}
 use Rattle.composing.specs.Joined.{termsAfter, lentAfter}
 use Rattle.composing.proofs.Rows.{log-back}
 use Rattle.composing.proofs.Raised.{Past, raised, Apart, Raises, Ends, run-raised}
