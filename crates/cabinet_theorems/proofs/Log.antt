@@ -9,21 +9,16 @@ use mathlib.Core.Logic.{_↔_, _⊎_, inl, inr, ⊎-elim}
 use mathlib.Core.Option.{Option, none, some}
 use lib.ListN.{length, take, drop, take-append-drop}
 use lib.Seq.{length-take-le}
-use Rattle.turns.specs.Turn.{Turn, more, done}
-use Rattle.turns.proofs.Beside.{Both, loop-beside}
 use Rattle.machine.specs.declared.Machine.{Machine}
-use Rattle.machine.specs.declared.Pending.{Pending}
-use Rattle.machine.specs.declared.Pending.the-variants.{Nothing, Due}
-use Rattle.machine.specs.Interrupts.{pendingOf}
 use Rattle.replies.specs.Replies.{Told, told}
 use Rattle.boundary.specs.declared.Stop.{Stop}
 use Rattle.boundary.specs.declared.Stop.the-variants.{Limit, Undefined, Full, LogFull}
 use Rattle.boundary.specs.World.{Lent, lent, withLog, Terms, terms, loggedBytes, World, Ended}
-use Rattle.boundary.specs.Boundary.{fedWorld, sentWorld, loggedOf, onPending, actOf, sendOf, boundaryOf, runOf}
 use Rattle.boundary.specs.Start.{startWorld, ranOf}
-use Rattle.boundary.proofs.Runs.{run-falls}
 use Rattle.log_theorems.specs.Wakes.{wakesOf, rowsBytes, logging, endedWith}
+use Rattle.log_theorems.proofs.Ordinary.{ordinary-run}
 use Rattle.log_theorems.proofs.Log as log
+use Rattle.log_theorems.proofs.Watching as watching
 use Rattle.cabinet.specs.Answers.{toldStop, refusalOf, End, endAt, onRefusal, endOf, Answer, answerAt, answerOf, leapsOf}
 use Rattle.cabinet.proofs.Ends.{end-cases, left-cases}
 use Rattle.cabinet_theorems.proofs.Exactly.{fault-number, number, stop-known, Admitted, admitted-end, reply-11}
@@ -53,7 +48,6 @@ log-part t m l = by (t .watch .log) refl
         )
     by false e = let same = log.log-untouched t m l e in (omega arith, ap length same, refl, same)
 
--- where the log is not asked for, nothing of a run counts the cycles before it
 module _ (t : Terms) where
   -- "the run": what both forms are that know of no log
   abbrev ordinary : Terms
@@ -62,41 +56,13 @@ module _ (t : Terms) where
   abbrev silent : Terms
   silent = logging false t
 
-  act-same : (w : World) → actOf (silent .watch) w ≡ actOf (ordinary .watch) w
-  unfolding actOf loggedOf
-  act-same w = by (pendingOf (w .state .machine))
-    where
-      by : (p : Pending) → onPending (silent .watch) p w ≡ onPending (ordinary .watch) p w
-      by (Due cause) = refl
-      by Nothing = refl
-
-  boundary-same : (w : World) → boundaryOf silent w ≡ boundaryOf ordinary w
-  unfolding boundaryOf sendOf
-  boundary-same w =
-      let f = fedWorld (t .session) w in
-      rw (act-same (sentWorld f), act-same f)
-
-  run-same : (w : World) → runOf silent w ≡ runOf ordinary w
-  unfolding runOf
-  run-same w =
-      loop-beside (boundaryOf silent) _ _ (run-falls silent) (boundaryOf ordinary) _ _ (run-falls ordinary) _≡_ _≡_ both w w refl
-    where
-      alike : (x : Turn World Ended) → Both _≡_ _≡_ x x
-      alike (more v) = refl
-      alike (done e) = refl
-
-      both : (v u : World) → v ≡ u → Both _≡_ _≡_ (boundaryOf silent v) (boundaryOf ordinary u)
-      both v u e =
-          subst (λ (x : World). Both _≡_ _≡_ (boundaryOf silent v) (boundaryOf ordinary x)) e
-          (subst (Both _≡_ _≡_ (boundaryOf silent v)) (boundary-same v) (alike (boundaryOf silent v)))
-
 -- a run that is not stopped with 11 is the run without a log, in all but the log
 module _ (t : Terms) (m : Machine) (l : Lent) where
   abbrev Runs : Ended → Type 0
   Runs e = ranOf (ordinary t) m (lent (l .image) (l .output)) ≡ endedWith [] e
 
   silent-runs : Runs (ranOf (silent t) m l)
-  silent-runs = sym (run-same t (startWorld m (lent (l .image) (l .output)))) ∙ log.log-unread t m l []
+  silent-runs = sym (ordinary-run t (startWorld m (lent (l .image) (l .output)))) ∙ watching.log-unread t m l []
 
   enough-runs : (ranOf t m l .stop ≡ LogFull → ⊥) → Runs (ranOf t m l)
   enough-runs = by (t .watch .log) refl
@@ -105,7 +71,7 @@ module _ (t : Terms) (m : Machine) (l : Lent) where
       P x = (ranOf x m l .stop ≡ LogFull → ⊥) → Runs (ranOf x m l)
 
       by : (b : Bool) → t .watch .log ≡ b → P t
-      by true e = subst P (sym (ap (λ (b : Bool). logging b t) e)) (λ n. silent-runs ∙ ap (endedWith []) (log.logged-ends t m l n))
+      by true e = subst P (sym (ap (λ (b : Bool). logging b t) e)) (λ n. silent-runs ∙ ap (endedWith []) (watching.logged-ends t m l n))
       by false e = subst P (sym (ap (λ (b : Bool). logging b t) e)) (λ n. silent-runs)
 
 -- an answer with another log
@@ -216,7 +182,7 @@ module _ (asked : Terms) (m : Machine) (given : Lent) where
         let h = reply-11 asked m given .0 r .0 in
         let p = h .0 in
         let stop = stop-known (ranOf asked m given .stop) LogFull (ap (λ (x : End). x .reply) (sym (admitted-end asked m given h)) ∙ r) in
-        let more = log.exactly-11 asked m given .0 (ap (λ (t : Terms). ranOf t m given .stop) as-logging ∙ stop) in
+        let more = watching.exactly-11 asked m given .0 (ap (λ (t : Terms). ranOf t m given .stop) as-logging ∙ stop) in
         let plain = admitted-end (ordinary asked) m (lent (given .image) (given .output))
         (record { image-long = p .image-long; in-ranges = p .in-ranges; within = p .within }, h .1) in
         let same = ap (λ (x : End). x .world .state .entries .0) plain in
@@ -239,7 +205,7 @@ module _ (asked : Terms) (m : Machine) (given : Lent) where
         take (8 * a .entries) (a .lent .log) ≡ rowsBytes (take (length (given .log) / 8) (wakesOf (logging false asked) (startWorld m given)))
     rows-told h =
         let first = subst (λ (t : Terms). wakesOf t (startWorld m given) ≡ take (length (given .log) / 8) (wakesOf (logging false asked) (startWorld m given)))
-        as-logging (log.rows-first asked m given) in
+        as-logging (watching.rows-first asked m given) in
         subst
         (λ (x : End).
         take (8 * x .world .state .entries .0) (x .world .lent .log)
@@ -264,4 +230,4 @@ module _ (asked : Terms) (m : Machine) (given : Lent) where
             (λ (t : Terms).
             let w = ranOf t m given .world in
             take (8 * w .state .entries .0) (w .lent .log) ≡ take (8 * w .state .entries .0) (ranOf t m (withLog given longer) .world .lent .log))
-            as-logging (log.log-first asked m given longer h)
+            as-logging (watching.log-first asked m given longer h)

@@ -17,7 +17,8 @@ use Rattle.boundary.specs.Boundary.{runOf}
 use Rattle.boundary.specs.Start.{startWorld, ranOf}
 use Rattle.log_theorems.specs.Wakes.{rowsBytes, loggedRows, relogged, endedWith, wakesOf}
 use Rattle.log_theorems.proofs.Bytes.{rows-long}
-use Rattle.log_theorems.proofs.Beside.{Written, Follows, follows}
+use Rattle.log_theorems.proofs.Boundaries.{Written}
+use Rattle.log_theorems.proofs.Beside.{Follows, follows}
 use Rattle.cabinet_theorems.proofs.Log.{log-part}
 use Rattle.composing.proofs.Further.{not-log-full, run-further, run-same}
 
