@@ -97,6 +97,8 @@ static int untouched(const uint8_t *bytes, size_t length) {
     return length == 0;
 }
 
+static const char *as_it_was(const uint8_t *bytes, size_t length) { return untouched(bytes, length) ? "as it was" : "CHANGED"; }
+
 static int run_night(uint8_t *machine) {
     uint64_t now = 0;
     size_t next = 0;
@@ -137,13 +139,14 @@ static const uint8_t stretch[] = {
 
 /* What a run is lent. */
 struct lent {
-    uint8_t image[PLIRUZZA_IMAGE], machine[PLIRUZZA_MACHINE], output[8], result[PLIRUZZA_LEAPING];
+    uint8_t image[PLIRUZZA_IMAGE], machine[PLIRUZZA_MACHINE], output[8], log[4 * PLIRUZZA_ROW], result[PLIRUZZA_LEAPING];
 };
 
 static void lend(struct lent *l, const uint8_t *machine) {
     memset(l, 0, sizeof *l);
     memcpy(l->image, image, sizeof image);
     memcpy(l->machine, machine, PLIRUZZA_MACHINE);
+    memset(l->log, 0xEE, sizeof l->log);
 }
 
 static uint32_t run_leaping(struct lent *l, const uint8_t *session, size_t length, uint32_t n, size_t sent) {
@@ -153,7 +156,7 @@ static uint32_t run_leaping(struct lent *l, const uint8_t *session, size_t lengt
 
 static const char *alike(const struct lent *a, const struct lent *b) {
     return memcmp(a->image, b->image, PLIRUZZA_IMAGE) || memcmp(a->machine, b->machine, PLIRUZZA_MACHINE)
-                   || memcmp(a->output, b->output, sizeof a->output)
+                   || memcmp(a->output, b->output, sizeof a->output) || memcmp(a->log, b->log, sizeof a->log)
                ? "DIFFER"
                : "alike";
 }
@@ -183,6 +186,59 @@ static int compare_runs(const uint8_t *machine) {
     printf("after %u cycles: rest %u of %u bytes,", (unsigned)cycles, (unsigned)reply, (unsigned)number_at(told, 8));
     if (run_leaping(&sliced, rest, (size_t)number_at(told, 8), STRETCH - cycles, sent) != 0) return 1;
     printf(" then %u cycles, %s\n", (unsigned)number_at(sliced.result + PLIRUZZA_AT_CYCLES, 4), alike(&sliced, &leaping));
+    return 0;
+}
+
+/* What woke it, in the stretch with an NMI at 2,000 as well: it is entered first, with serial (bit 5) behind it, and takes 4 cycles out of the wait;
+ * INC (6) and RTI (10) follow, and serial is entered at 2,020. The next byte comes in a wait. So three rows, and a fourth that stays as it was. */
+static const uint8_t called[] = {
+    8, 0, 5, 0, 0xD0, 0x07, 0, 0, 'E', 1,  /* at 2,000 */
+    6, 0, 4, 0, 0xD0, 0x07, 0, 0,          /* at 2,000 */
+    8, 0, 5, 0, 0xF8, 0x2A, 0, 0, 'F', 1,  /* at 11,000 */
+};
+
+static uint32_t watch(struct lent *l, const uint8_t *session, size_t length, uint32_t n, uint32_t bits, uint32_t since, size_t row, size_t rows) {
+    uint32_t reply = pliruzza_watch_leaping(l->image, PLIRUZZA_IMAGE, l->machine, PLIRUZZA_MACHINE, session, length, n, bits, since, l->output,
+                                            sizeof l->output, l->log + row * PLIRUZZA_ROW, rows * PLIRUZZA_ROW, l->result, PLIRUZZA_LEAPING);
+    printf("watched: %u", (unsigned)reply);
+    show("cycles", l->result + PLIRUZZA_AT_CYCLES, 4);
+    show("entries", l->result + PLIRUZZA_AT_ENTRIES, 4);
+    return reply;
+}
+
+/* Both watched runs of it; the leaping run with room for one row, which 11 stops at 2,020, and from there on; no bit set; and a bit that asks for nothing. */
+static int show_wakes(const uint8_t *machine) {
+    static struct lent single, whole, cut, plain;
+    uint8_t rest[sizeof called], told[PLIRUZZA_REST];
+    lend(&single, machine);
+    lend(&whole, machine);
+    lend(&cut, machine);
+    lend(&plain, machine);
+    if (watch(&whole, called, sizeof called, STRETCH, PLIRUZZA_WATCH_LOG, 0, 0, 4) != 0) return 1;
+    printf("\n");
+    for (const uint8_t *row = whole.log; row < whole.log + 3 * PLIRUZZA_ROW; row += PLIRUZZA_ROW) {
+        printf("row");
+        show("cycle", row + PLIRUZZA_ROW_CYCLE, 4);
+        show("cause", row + PLIRUZZA_ROW_CAUSE, 1);
+        show_bytes("behind", row + PLIRUZZA_ROW_BEHIND, 1);
+        printf("\n");
+    }
+    if (pliruzza_watch_single(single.image, PLIRUZZA_IMAGE, single.machine, PLIRUZZA_MACHINE, called, sizeof called, STRETCH, PLIRUZZA_WATCH_LOG, 0,
+                              single.output, sizeof single.output, single.log, sizeof single.log, single.result, PLIRUZZA_SINGLE) != 0)
+        return 1;
+    printf("single and leaping %s, the fourth row %s\n", alike(&single, &whole), as_it_was(whole.log + 3 * PLIRUZZA_ROW, PLIRUZZA_ROW));
+    if (watch(&cut, called, sizeof called, STRETCH, PLIRUZZA_WATCH_LOG, 0, 0, 1) != 11) return 1;
+    printf("\n");
+    uint32_t cycles = (uint32_t)number_at(cut.result + PLIRUZZA_AT_CYCLES, 4);
+    size_t used = (size_t)number_at(cut.result + PLIRUZZA_AT_USED, 8);
+    if (pliruzza_rest(called, sizeof called, used, cycles, rest, sizeof rest, told, sizeof told) != 0) return 1;
+    if (watch(&cut, rest, (size_t)number_at(told, 8), STRETCH - cycles, PLIRUZZA_WATCH_LOG, cycles, 1, 3) != 0) return 1;
+    printf(", %s\n", alike(&cut, &whole));
+    if (watch(&plain, called, sizeof called, STRETCH, 0, 0, 0, 0) != 0) return 1;
+    printf(", log %s\n", as_it_was(plain.log, sizeof plain.log));
+    lend(&plain, machine);
+    if (watch(&plain, called, sizeof called, STRETCH, 2, 0, 0, 4) != 36) return 1;
+    printf(", log %s\n", as_it_was(plain.log, sizeof plain.log));
     return 0;
 }
 
@@ -269,6 +325,7 @@ int main(void) {
     power_on(sizeof image, 0xF000, machine, sizeof machine);
     if (run_night(machine)) return 1;
     if (compare_runs(machine)) return 1;
+    if (show_wakes(machine)) return 1;
     for (size_t i = 0; i < sizeof wrongs / sizeof wrongs[0]; i++) refuse(&wrongs[i]);
     refuse_rest(sizeof stretch, 1, sizeof stretch, 7);
     refuse_rest(18, 1, sizeof stretch, 8);

@@ -17,13 +17,16 @@
  *    7  a record's time is before the previous record's
  *    8  the opcode is undefined
  *    9  a byte is to be sent and the output has no room
+ *   11  an interrupt is to be entered and the log has no room for its row
  *   26  the saved machine is not 42 bytes
  *   27  the saved machine's version is not 1
  *   28  the saved machine's bytes stand for no machine
  *   29  the buffer for the result or for the answer is too short
  *   30  the session has fewer records than were used
  *   31  the buffer for the rest of a session is too short
- * They are tested in this order: 29, 26, 27, 28, 1, 2, 3, then the session from the front (4 to 7), 30, 31. A call that returns 26 or above writes nothing.
+ *   36  a bit of `watch` is set that asks for nothing
+ * They are tested in this order: 36, 29, 26, 27, 28, 1, 2, 3, then the session from the front (4 to 7), 30, 31; at each step of a run 0, 9, 11, 8. A call that
+ * returns 26 or above writes nothing.
  */
 #ifndef PLIRUZZA_H
 #define PLIRUZZA_H
@@ -61,7 +64,14 @@ enum {
     PLIRUZZA_AT_ACCUMULATOR = 2,
     PLIRUZZA_AT_PLACE = 3,
     PLIRUZZA_AT_LENGTH = 4,
-    PLIRUZZA_AT_CYCLES_TAKEN = 5
+    PLIRUZZA_AT_CYCLES_TAKEN = 5,
+    /* bits of `watch` */
+    PLIRUZZA_WATCH_LOG = 1,   /* the wake log */
+    /* a row of the wake log: its bytes, and places in it */
+    PLIRUZZA_ROW = 8,
+    PLIRUZZA_ROW_CYCLE = 0,
+    PLIRUZZA_ROW_CAUSE = 4,
+    PLIRUZZA_ROW_BEHIND = 5
 };
 
 /* Power-on: the machine after reset, its PC from $FFFE of the image, is saved into `machine`. R is the start of read-only memory.
@@ -90,6 +100,29 @@ uint32_t pliruzza_run_single(uint8_t *image, size_t image_length, uint8_t *machi
  */
 uint32_t pliruzza_run_leaping(uint8_t *image, size_t image_length, uint8_t *machine, size_t machine_length, const uint8_t *session, size_t session_length,
                               uint32_t n, uint8_t *output, size_t output_length, uint8_t *result, size_t result_length);
+
+/* The watched pair: the same runs, that tell besides what the bits of `watch` ask for. Of the number returned, image, machine, output and result all is said
+ * above; with no bit set these are the two runs, and `log` is neither tested nor touched.
+ *
+ * PLIRUZZA_WATCH_LOG: what woke the machine. Each interrupt entry writes a row to the log, so that there are as many rows as the result tells entries; bytes
+ * after them are unchanged. The log may have any length; room is its length / 8 rows. An entry without room for its row stops the run with 11 before anything
+ * of the entry is done, and leaves what 8 leaves: from the saved machine and the rest of the session a run with another log goes on as if uncut.
+ *
+ * `since` are the cycles that had passed before this run, 0 for a run by itself. They are added to the rows' cycles, round at 2^32: runs that follow each
+ * other, each lent the rest of one buffer, write the log that one run writes.
+ *
+ * A row, little-endian:
+ *    0  the cycle, before those of the entry itself (4)
+ *    4  the cause: 0 NMI, 1 IRQ1, 2 ICF, 3 OCF, 4 TOF, 5 serial (1)
+ *    5  the causes that waited behind it, bit k for cause k; with I set none but NMI is a cause (1)
+ *    6  0 (2)
+ */
+uint32_t pliruzza_watch_single(uint8_t *image, size_t image_length, uint8_t *machine, size_t machine_length, const uint8_t *session, size_t session_length,
+                               uint32_t n, uint32_t watch, uint32_t since, uint8_t *output, size_t output_length, uint8_t *log, size_t log_length,
+                               uint8_t *result, size_t result_length);
+uint32_t pliruzza_watch_leaping(uint8_t *image, size_t image_length, uint8_t *machine, size_t machine_length, const uint8_t *session, size_t session_length,
+                                uint32_t n, uint32_t watch, uint32_t since, uint8_t *output, size_t output_length, uint8_t *log, size_t log_length,
+                                uint8_t *result, size_t result_length);
 
 /* The rest of a session after a run that used its first `used` records in `cycles` cycles: the records after them, their times less the cycles, or 0 where
  * that would be below 0. It is what the next slice is lent. The rest goes to the front of `rest`; it is never longer than the session.

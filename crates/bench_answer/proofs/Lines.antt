@@ -17,7 +17,7 @@ use Rattle.machine.specs.declared.Power.the-variants as power
 use Rattle.machine.specs.Machine.{powerOnOf}
 use Rattle.boundary.specs.World.{lent, terms}
 use Rattle.cabinet.specs.Answers.{Answer, answerOf}
-use Rattle.cabinet.proofs.Ends.{reply-most}
+use Rattle.cabinet.proofs.Ends.{refusal-most}
 use Rattle.bench_input.specs.declared.Input.{Input}
 use Rattle.bench_input.specs.declared.Input.the-variants.{Bad, Run}
 use Rattle.bench_input.specs.Input.{isGood, inputOf}
@@ -87,20 +87,20 @@ stop-other a e =
     let z : _≡_ {A = ℕ} 115 114 = ap (λ (t : List ℕ). getD t 0 0) e in
     let w : ⊥ = omega (arith, z) in w
 
-text-other : (a : Answer) → a .reply .number ≤ 9 → IsTen (textOf a) → ⊥
+text-other : (a : Answer) → (stops (a .reply .number) ≡ false → a .reply .number ≤ 7) → IsTen (textOf a) → ⊥
 unfolding textOf
-text-other a h = by (stops (a .reply .number))
+text-other a h = by (stops (a .reply .number)) refl
   where
-    by : (b : Bool) → IsTen (cond b (stopText a) (refusal (a .reply))) → ⊥
-    by true e = stop-other a e
-    by false e = refused-other (a .reply .number) (a .reply .named) h e
+    by : (b : Bool) → stops (a .reply .number) ≡ b → IsTen (cond b (stopText a) (refusal (a .reply))) → ⊥
+    by true s e = stop-other a e
+    by false s e = refused-other (a .reply .number) (a .reply .named) (let k = h s in omega arith) e
 
 power-other : (image session : List ℕ) (n : ℕ) (p : Power) → IsTen (poweredText image session n (toldPower p)) → ⊥
 unfolding poweredText
 power-other image session n power.WrongImage e = refused-other 1 none (omega arith) e
 power-other image session n power.WrongStart e = refused-other 2 none (omega arith) e
 power-other image session n (power.On m) e =
-    text-other (answerOf (terms session n) m (lent image (replicate 256 0))) (reply-most (terms session n) m (lent image (replicate 256 0))) e
+    text-other (answerOf (terms session n) m (lent image (replicate 256 0))) (refusal-most (terms session n) m (lent image (replicate 256 0))) e
 
 input-other : (input : List ℕ) (n r start : ℕ) → IsTen (inputText input (toldInput (Run n r start))) → ⊥
 unfolding inputText

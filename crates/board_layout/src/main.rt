@@ -13,6 +13,7 @@ use opcodes::Operation;
 use opcodes::Place;
 use printing::Line;
 use replies::Reply;
+use wake_log::Row;
 
 fn tell(name: &[u8], n: usize) {
     Line::empty()
@@ -87,6 +88,39 @@ fn tell_answer(answer: &[u8]) {
     tell(b"AT_CYCLES_TAKEN", place_of(4, answer));
 }
 
+// A row of the wake log, written as the first and as the second.
+fn row() -> Row {
+    Row {
+        cycle: 0x11111111,
+        cause: 0x22,
+        behind: 0x33,
+    }
+}
+
+fn first_row() -> [u8; 16] {
+    let mut log = [0u8; 16];
+    wake_log::write_row(&mut log, 0, row());
+    log
+}
+
+fn second_row() -> [u8; 16] {
+    let mut log = [0u8; 16];
+    wake_log::write_row(&mut log, 1, row());
+    log
+}
+
+fn tell_row(first: &[u8], second: &[u8]) {
+    tell(b"ROW", place_of(0x11, second));
+    tell(b"ROW_CYCLE", place_of(0x11, first));
+    tell(b"ROW_CAUSE", place_of(0x22, first));
+    tell(b"ROW_BEHIND", place_of(0x33, first));
+}
+
+// Whether a set of bits asks for the log: 1, else 0.
+fn asks(bits: u32) -> u8 {
+    if board_numbers::asks_log(bits) { 1 } else { 0 }
+}
+
 fn main() {
     tell(b"SINGLE", board_results::record_size(false));
     tell(b"LEAPING", board_results::record_size(true));
@@ -94,4 +128,9 @@ fn main() {
     tell(b"ANSWER", answer.len());
     tell_result(&result());
     tell_answer(&answer);
+    tell(
+        b"WATCH_LOG",
+        place_of(1, &[asks(0), asks(1), asks(2), asks(3)]),
+    );
+    tell_row(&first_row(), &second_row());
 }

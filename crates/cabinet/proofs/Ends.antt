@@ -2,7 +2,7 @@
 use Prim.Native.Nat.{ℕ, _≤_, _<_}
 use native.Mathlib.Omega.{arith}
 use mathlib.Core.Path.{_≡_, refl, sym, ap, subst, _∙_}
-use mathlib.Core.Bool.{Bool, true, false, not}
+use mathlib.Core.Bool.{Bool, true, false, not, true≢false}
 use mathlib.Core.Option.{Option, none, some}
 use lib.Dec.{eqb, ltb}
 use lib.ListN.{length}
@@ -15,7 +15,7 @@ use Rattle.session.specs.declared.Fault.the-variants as fault
 use Rattle.session.specs.declared.Checked.{Checked}
 use Rattle.session.specs.declared.Checked.the-variants.{Sound, Bad}
 use Rattle.replies.specs.declared.Reply.{Reply}
-use Rattle.replies.specs.Replies.{Told, told, toldReply, toldFault, toldCheck}
+use Rattle.replies.specs.Replies.{Told, told, toldReply, toldFault, toldCheck, stops}
 use Rattle.machine.specs.declared.Machine.{Machine}
 use Rattle.machine.specs.Machine.{Ranges, rangesOf}
 use Rattle.machine.proofs.Ranges.{ranges-say}
@@ -135,8 +135,8 @@ module _ (asked : Terms) (m : Machine) (given : Lent) where
       → P (endOf asked m given .world)
   left-cases P s r = end-cases (λ x. P (x .world)) (λ l. s) (λ l f. s) (λ l f h. s) (λ a f e. s) (λ a e. r e)
 
--- the replies to a run are at most 11
-fault-most : (f : Fault) → faultNumber f ≤ 11
+-- the replies to a run are at most 11, those that name a record at most 7
+fault-most : (f : Fault) → faultNumber f ≤ 7
 fault-most (fault.Length k) = omega arith
 fault-most (fault.Kind k) = omega arith
 fault-most (fault.Value k) = omega arith
@@ -154,5 +154,21 @@ reply-most asked m given =
     (λ l. omega arith)
     (λ l r. omega arith)
     (λ l r h. omega arith)
-    (λ p f e. fault-most f)
+    (λ p f e. let h = fault-most f in omega arith)
     (λ p e. stop-most (ranOf asked m given .stop))
+
+-- and those of refusals at most 7
+stop-stops : (s : Stop) → stops (stopNumber s) ≡ true
+stop-stops stop.Limit = refl
+stop-stops stop.Undefined = refl
+stop-stops stop.Full = refl
+stop-stops stop.LogFull = refl
+
+pub refusal-most : (asked : Terms) (m : Machine) (given : Lent) → let k = answerOf asked m given .reply .number in stops k ≡ false → k ≤ 7
+refusal-most asked m given =
+    end-cases asked m given (λ x. stops (x .reply .number) ≡ false → x .reply .number ≤ 7)
+    (λ l e. omega arith)
+    (λ l r e. omega arith)
+    (λ l r h e. omega arith)
+    (λ p f s e. fault-most f)
+    (λ p s e. absurd (true≢false (sym (stop-stops (ranOf asked m given .stop)) ∙ e)))

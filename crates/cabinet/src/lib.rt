@@ -234,8 +234,8 @@ pub fn watch_leaping(
     watch_either(true, image, m, session, n, watch, output, log)
 }
 
-// Either run with nothing watched.
-fn run_either(
+// Either run with nothing watched: the same answer, and how many leaps there were or would have been.
+pub fn run_either(
     leaping: bool,
     image: &mut [u8],
     m: Machine,

@@ -1,5 +1,7 @@
 // The night program: [--log FILE] [--] IMAGE SESSION N R STATE OUTPUT. It runs a night on the files, prints a line for each slice and one for the
 // night, and has night_commit put the new files in the old ones' places (docs/NIGHT.md).
+use boundary::Watch;
+use counts::Cycles;
 use machine::Machine;
 use machine::Power;
 use night_arguments::Number;
@@ -16,10 +18,11 @@ enum Held {
     Failed,
 }
 
-// The two numbers of a call.
+// The two numbers of a call, and whether it asks for a log.
 struct Terms {
     n: u32,
     r: u32,
+    log: bool,
 }
 
 // What a night starts from: a machine, or the number of a refusal.
@@ -32,7 +35,7 @@ fn refuse(number: u8) {
     lines::refused(number).text(b"\n").print();
 }
 
-// 1,048,576 zeros, for a session.
+// 1,048,576 zeros, for a session or a log.
 fn session_buffer() -> [u8; 1048576]
     ensures { λ r. ⌜ 1048576 ≡ length r ⌝ }
 {
@@ -120,12 +123,27 @@ fn pass(
     image: &mut [u8],
     session: &mut [u8],
     size: usize,
-    n: u32,
+    terms: Terms,
     m: Machine,
+    log: &mut [u8],
 ) {
     let mut spare = session_buffer();
     let mut output = io::large_buffer();
-    let night = night_slices::run_night(image, m, session, size, n, &mut output, &mut spare);
+    let watch = Watch {
+        log: terms.log,
+        since: Cycles(0),
+    };
+    let night = night_slices::run_night(
+        image,
+        m,
+        session,
+        size,
+        terms.n,
+        watch,
+        &mut output,
+        log,
+        &mut spare,
+    );
     let line = night.line();
     if !night.has_stopped() {
         give_up(state_name, names);
@@ -142,12 +160,31 @@ fn pass(
         &machine,
         cabinet::filled(&session[..], night.length),
         cabinet::filled(&output, night.sent),
-        b"",
+        cabinet::filled(&log[..], night.logged),
     );
     match end {
         Op::Placed => line.print(),
         _ => tell(end),
     }
+}
+
+// The same, with room for a log where one is asked for.
+fn pass_either(
+    state_name: &[u8],
+    names: &[u8],
+    image: &mut [u8],
+    session: &mut [u8],
+    size: usize,
+    terms: Terms,
+    m: Machine,
+) {
+    if terms.log {
+        let mut log = session_buffer();
+        pass(state_name, names, image, session, size, terms, m, &mut log);
+        return;
+    }
+    let mut none = [0u8; 1];
+    pass(state_name, names, image, session, size, terms, m, &mut none);
 }
 
 // The image's file is read into the buffer: 0, or the number of a refusal.
@@ -188,7 +225,7 @@ fn start(
             give_up(state_name, names);
             refuse(k);
         }
-        Begun::From(m) => pass(state_name, names, &mut image, session, size, terms.n, m),
+        Begun::From(m) => pass_either(state_name, names, &mut image, session, size, terms, m),
     }
 }
 
@@ -298,6 +335,7 @@ fn read_names(first: u8, log: u8) {
     let terms = Terms {
         n: cycles,
         r: start,
+        log: log != 0,
     };
     call_named(
         &image[..a],

@@ -2,16 +2,15 @@
 use Prim.Native.Nat.{ℕ, suc, _+_, _-_, _≤_, _<_}
 use native.Mathlib.Numerals.{add-one}
 use native.Mathlib.Omega.{arith}
-use mathlib.Core.Bool.{true, false, cond}
+use mathlib.Core.Bool.{true, false}
 use mathlib.Core.List.{List, [], _∷_}
 use mathlib.Core.Logic.{_≢_}
 use mathlib.Core.Path.{_≡_, refl, sym, ap, _∙_}
 use lib.ListN.{length, getD, set, drop, length-drop}
 use lib.Seq.{drop-cons}
 use borrow.Author.Tests.{lt-ltb, le-ltb, lt-leb, le-leb, eq-eqb, ne-eqb}
-use Rattle.laws.proofs.Bools.{and-false}
 use Rattle.laws.proofs.Conds.{picks, passes}
-use Rattle.night_arguments.specs.Options.{Call, isFree, told, namesFrom, callFrom, callOf}
+use Rattle.night_arguments.specs.Options.{isFree, told, namesFrom, callFrom, callOf}
 
 module _ (kind : ℕ) (values : List ℕ) where
   pub no-option : kind < 3 → isFree kind values ≡ false

@@ -1,2 +1,3 @@
 mod Laws
 mod Calls
+pub mod Worked

@@ -2,7 +2,7 @@
 use Prim.Native.Nat.{ℕ, _+_, _-_, _≤_, _<_}
 use native.Mathlib.Numerals.{add-one}
 use native.Mathlib.Omega.{arith}
-use mathlib.Core.List.{List, [], _∷_}
+use mathlib.Core.List.{List}
 use mathlib.Core.Logic.{_≢_}
 use mathlib.Core.Path.{_≡_, refl, sym, ap, _∙_}
 use lib.Dec.{eqb}
@@ -12,7 +12,7 @@ use Rattle.laws.proofs.Conds.{cases}
 use Rattle.laws.proofs.Lists.{take-rest}
 use Rattle.printing.specs.Printing.{ascii}
 use Rattle.night_arguments.specs.Arguments.{joinedOf}
-use Rattle.night_names.specs.Names.{beginsAt, lastFrom, lastAt, withName, namesOf, nameAt, namedPlace, placeOf, workOf}
+use Rattle.night_names.specs.Names.{beginsAt, lastFrom, lastAt, withName, namesOf, nameAt, namedPlace, workOf}
 
 pub last-next : (l : List ℕ) (i at : ℕ) → i < length l → lastFrom i at (drop i l) ≡ lastFrom (i + 1) (beginsAt (getD l i 0) (i + 1) at) (drop (i + 1) l)
 unfolding lastFrom

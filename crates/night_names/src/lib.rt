@@ -2,9 +2,8 @@
 // place (docs/NIGHT.md).
 use night_arguments::same;
 ghost use Prim.Native.Nat.{_+_, _-_, _≤_};
-ghost use mathlib.Core.List.{[]};
 ghost use mathlib.Core.Path.{_≡_};
-ghost use lib.ListN.{length, take, drop, getD};
+ghost use lib.ListN.{length, take, drop};
 ghost use Rattle.io.specs.Counts.{Counts};
 ghost use Rattle.night_names.specs.Names.{beginsAt, lastAt, isPlace, isBeside, isWith, isOfState, isRead, areNames, partsOf, withName, namesOf, nameAt};
 ghost use Rattle.night_names.specs.Names.{filesOf, noneEmpty, areRecorded, isAmong, isFurther, namedPlace, placeOf, workOf};

@@ -1,6 +1,6 @@
 // The recovery on prepared folders, one for each case, in data/: STATE.done with all, some and none of its files, with other names, without names, with
 // one name; STATE.night standing; a call that has an earlier night's names. Then a whole night, one that did not run, two that fail; and recoveries and a night
-// with a further file, the log. The old files hold `old` and the new ones `new`. Last the names that a call may have, and its options.
+// with a further file, the log. The old files hold `old` and the new ones `new`. Last the names that a call may have.
 use night_steps::Op;
 use printing::Line;
 
@@ -262,69 +262,11 @@ fn show_further(word: &[u8], file: &[u8]) {
 
 fn further() {
     show_further(b"log", b"l");
-    show_further(b"no log", b"");
-    show_further(b"log elsewhere", b"e/l");
     show_further(b"log is image", b"i");
     show_further(b"log is output", b"o");
     show_further(b"log is a further one", b"f");
     show_further(b"log is session", b"s");
-    show_further(b"log is state", b"m");
     show_further(b"log is done", b"m.done");
-}
-
-// Where the names of a call begin, and which argument is the log's name, by the arguments' kinds.
-fn show_call(word: &[u8], kinds: &[u8]) {
-    let mut values = [0u8; 1];
-    let names = night_arguments::read_call(kinds, &mut values);
-    Line::empty()
-        .text(word)
-        .text(b": names ")
-        .decimal(names as u64)
-        .print();
-    show_number(b" log ", values[0]);
-    Line::empty().text(b"\n").print();
-}
-
-fn show_kind(text: &[u8]) {
-    let kind = night_arguments::kind_of(text);
-    Line::empty()
-        .text(text)
-        .text(b": ")
-        .decimal(kind as u64)
-        .text(b"\n")
-        .print();
-}
-
-fn kinds() {
-    show_kind(b"--log");
-    show_kind(b"--");
-    show_kind(b"--lo");
-    show_kind(b"--logs");
-    show_kind(b"-log");
-    show_kind(b"-");
-    show_kind(b"");
-    show_kind(b"log");
-}
-
-fn calls() {
-    show_call(b"six", &[0, 0, 0, 0, 0, 0]);
-    show_call(b"five", &[0, 0, 0, 0, 0]);
-    show_call(b"seven", &[0, 0, 0, 0, 0, 0, 0]);
-    show_call(b"log", &[3, 0, 0, 0, 0, 0, 0, 0]);
-    show_call(b"a value like an option", &[3, 3, 0, 0, 0, 0, 0, 0]);
-}
-
-fn bad_calls() {
-    show_call(b"a value is missing", &[3, 0, 0, 0, 0, 0, 0]);
-    show_call(b"log twice", &[3, 0, 3, 0, 0, 0, 0, 0, 0, 0]);
-    show_call(b"unknown", &[2, 0, 0, 0, 0, 0, 0, 0]);
-    show_call(b"no arguments", &[]);
-}
-
-fn ended_calls() {
-    show_call(b"ended", &[1, 0, 0, 0, 0, 0, 0]);
-    show_call(b"names like options", &[3, 0, 1, 3, 2, 0, 0, 1, 0]);
-    show_call(b"ended twice", &[1, 1, 0, 0, 0, 0, 0, 0]);
 }
 
 fn texts() {
@@ -344,8 +286,4 @@ fn main() {
     logs();
     places();
     texts();
-    kinds();
-    calls();
-    bad_calls();
-    ended_calls();
 }

@@ -3,19 +3,19 @@
 use Prim.Native.Nat.{ℕ, zero, suc, _+_, _-_, _≤_, _<_}
 use native.Mathlib.Numerals.{add-one}
 use native.Mathlib.Omega.{arith}
-use mathlib.Core.Path.{_≡_, refl, sym, ap, subst}
-use mathlib.Core.Bool.{Bool, true, false, not, _&&_}
-use mathlib.Core.List.{List, [], _∷_, _++_}
+use mathlib.Core.Path.{_≡_, refl, sym, subst}
+use mathlib.Core.Bool.{Bool, true, false, _&&_}
+use mathlib.Core.List.{List, [], _∷_}
 use lib.Dec.{T, ltb}
 use borrow.Author.Tests.{ltb-true, ltb-false}
 use Rattle.night_steps.specs.declared.Op.{Op}
 use Rattle.night_steps.specs.declared.Op.the-variants.{Find, ReadNames, Take, Blocked, FindAgain, Settle, GiveBack, Run, Make, SyncNight, Unlink, RemoveNight}
 use Rattle.night_steps.specs.declared.Op.the-variants.{Commit, SyncCommit, Put, SyncPlaces, RemoveDone, SyncLast, Placed, Refused, Stopped}
-use Rattle.night_steps.specs.Steps.{choice, nextOp, events, walk}
-use Rattle.night_folders.specs.Folders.{Step, fresh, made, written, saved, moved, down, making, sealed, decided, placing, clearing, undoing, File, Home, Disk, Happening}
+use Rattle.night_steps.specs.Steps.{choice, nextOp, events}
+use Rattle.night_folders.specs.Folders.{Step, fresh, made, written, saved, moved, down, making, sealed, decided, placing, clearing, undoing, File, Disk, Happening}
 use Rattle.night_folders.specs.Folders.{create, write, fsync-file, fsync-night, commit, fsync-commit, put, fsync-place, rmdir-done, fsync-last, fail, unlink, rmdir-night, kill, Deed, _at_}
 use Rattle.night_folders.specs.Rules.{isPhase, isStep, may, asks}
-use Rattle.night_folders.specs.Effects.{turn, does, tests, changes, allowed, forced, step-of, afterwards, lawful, one, none, all}
+use Rattle.night_folders.specs.Effects.{does, tests, changes, allowed, forced, step-of, afterwards, lawful, one, none, all}
 use Rattle.night_folders.proofs.Every.{first, second, both}
 use Rattle.night_folders.proofs.Ends.{Sized, changes-sized, steps, halfway, all-way, done-step}
 

@@ -1,7 +1,7 @@
 -- The program's sequence is the one of night_folders' theorems, and it keeps to the rules whatever the system answers: for a night of n files, one or
 -- more. Assumes nothing.
-use mathlib.Core.Path.{_≡_, refl, sym, ap, subst, _∙_}
-use mathlib.Core.Bool.{Bool, true, false, _&&_}
+use mathlib.Core.Path.{_≡_, refl, ap, _∙_}
+use mathlib.Core.Bool.{Bool, true, false}
 use mathlib.Core.List.{List, [], _∷_, _++_}
 use Prim.Native.Nat.{ℕ, zero, suc, _+_, _≤_, _<_}
 use native.Mathlib.Numerals.{add-one}
@@ -13,9 +13,9 @@ use Rattle.night_steps.specs.declared.Op.the-variants.{Find, ReadNames, 
 use Rattle.night_steps.specs.declared.Op.the-variants.{Commit, SyncCommit, Put, SyncPlaces, RemoveDone, SyncLast, Placed, Refused, Stopped}
 use Rattle.night_steps.specs.Steps.{choice, afterMake, afterPut, nextOp, events, walk, end}
 use Rattle.night_steps.proofs.Held.{Held, held}
-use Rattle.night_folders.specs.Folders.{Deed, _at_, File, fresh, saved, Home, Help, Disk, Happening, idle, call, put, fsync-place, rmdir-done, fsync-last, fsync-commit, fsync-night, commit, create, write, fsync-file}
-use Rattle.night_folders.specs.Rules.{isPhase, asks}
-use Rattle.night_folders.specs.Effects.{start, newcomers, nightly, recovery, forward, eachFrom, writesFrom, lawful, afterwards, step-of, allowed, forced, tests, changes, does, one, none, all}
+use Rattle.night_folders.specs.Folders.{Deed, _at_, File, fresh, saved, Help, Disk, idle, call, put, fsync-commit, fsync-night, commit, create, write, fsync-file}
+use Rattle.night_folders.specs.Rules.{asks}
+use Rattle.night_folders.specs.Effects.{start, newcomers, nightly, recovery, eachFrom, writesFrom, lawful, afterwards, step-of, allowed, forced, tests, changes, does, one, none}
 use Rattle.night_folders.proofs.Beside.{inner, inners, outers, lawfulBeside, allowed-beside}
 use Rattle.night_folders.proofs.Every.{homeOf, first, second, both}
 use Rattle.night_folders.proofs.Ends.{Sized, start-sized, changes-sized, steps, done-step}

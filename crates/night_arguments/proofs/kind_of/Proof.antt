@@ -1,6 +1,5 @@
 -- One text after another. Assumes nothing.
 use borrow.Author.Needs.{needs}
-use borrow.Author.Tests.{not-true, not-false}
 use Rattle.night_arguments.specs.Options.{kindOf}
 use Rattle.night_arguments.proofs.kind_of.Statement.{statement}
 use Rattle.night_arguments.proofs.kind_of.Tie as tie

@@ -1,11 +1,11 @@
 -- `night_names::is_among` meets its contract: each turn compares one name more. Assumes nothing.
-use Prim.Native.Nat.{_+_, _-_, _≤_}
+use Prim.Native.Nat.{_+_, _-_}
 use native.Mathlib.Omega.{arith}
 use mathlib.Core.Path.{_≡_, refl, sym, ap, _∙_}
-use lib.ListN.{length, drop}
+use lib.ListN.{drop}
 use borrow.Author.Needs.{needs}
 use Rattle.night_arguments.specs.Arguments.{sameOf}
-use Rattle.night_names.specs.Names.{partsOf, nameAt, isAmong}
+use Rattle.night_names.specs.Names.{partsOf, isAmong}
 use Rattle.night_names.proofs.Cuts.{among-yes, among-no, among-end}
 use Rattle.night_names.proofs.is_among.Statement.{statement}
 use Rattle.night_names.proofs.is_among.Tie as tie

@@ -1,7 +1,6 @@
 -- One test after another; the last part is all that follows its place. Assumes nothing.
-use mathlib.Core.Path.{ap, _∙_}
 use Rattle.laws.proofs.Lists.{take-rest}
-use Rattle.night_names.specs.Names.{lastAt, lastOf, partsOf, isAmong, isFurther}
+use Rattle.night_names.specs.Names.{lastAt, isFurther}
 use borrow.Author.Needs.{needs}
 use Rattle.night_names.proofs.is_further.Statement.{statement}
 use Rattle.night_names.proofs.is_further.Tie as tie
