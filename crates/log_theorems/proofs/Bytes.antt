@@ -1,15 +1,13 @@
 -- The bytes of rows: so many rows are eight times as many bytes, and a row written after others is one row more. Assumes nothing.
-use Prim.Native.Nat.{ℕ, _+_, _*_, _-_, _≤_}
+use Prim.Native.Nat.{ℕ, _+_, _*_, _≤_}
 use native.Mathlib.Omega.{arith}
 use mathlib.Core.List.{List, [], _∷_, _++_, append-assoc, append-nil}
 use mathlib.Core.Path.{_≡_, refl, sym, ap, _∙_}
-use lib.Dec.{leb}
 use lib.ListN.{length, take, drop, length-append, length-drop}
-use lib.Seq.{take-at, drop-at, drop-drop, take-append-add, drop-append-add, length-take-le}
-use Rattle.laws.proofs.Orders.{leb-shifted}
+use lib.Seq.{take-at, drop-at, drop-drop, length-take-le}
 use Rattle.numbers.specs.Numbers.{over}
 use Rattle.wake_log.specs.declared.Row.{Row}
-use Rattle.wake_log.specs.Log.{rowBytes, fitsRow, withRow}
+use Rattle.wake_log.specs.Log.{rowBytes, withRow}
 use Rattle.wake_log.proofs.Laws.{row-long}
 use Rattle.log_theorems.specs.Wakes.{rowsBytes, withRows}
 
@@ -82,18 +80,3 @@ module _ (k : ℕ) (rows : List Row) (log : List ℕ) (h : 8 * k ≤ length log)
         drop-drop (length (rowsBytes rows ++ rowBytes row)) (8 * k) log,
       )
       (append-assoc (take (8 * k) log) (rowsBytes rows) _ ∙ ap (λ (x : List ℕ). take (8 * k) log ++ x) (sym (append-assoc (rowsBytes rows) (rowBytes row) _)))
-
--- rows after a front of whole rows, as in a log that a run before has begun
-module _ (front log : List ℕ) (k n : ℕ) (h : length front ≡ 8 * k) where
-  place : 8 * (k + n) ≡ length front + 8 * n
-  place = omega (arith, h)
-
-  pub row-after : (row : Row) → withRow row (k + n) (front ++ log) ≡ front ++ withRow row n log
-  unfolding withRow
-  row-after row =
-      rw (place, take-append-add front log (8 * n), drop-append-add front log (8 * n)) (append-assoc front (take (8 * n) log) _)
-
-  pub fits-after : fitsRow (front ++ log) (k + n) ≡ fitsRow log n
-  fits-after =
-      let e : 8 * (k + n) + 8 - length front ≡ 8 * n + 8 = omega (arith, h) in
-      ap (leb (8 * (k + n) + 8)) (length-append front log) ∙ leb-shifted (8 * (k + n) + 8) (length front) (length log) ∙ ap (λ (i : ℕ). leb i (length log)) e
