@@ -43,9 +43,9 @@ withKept s a leaps k =
     }
 
 module _ (n : Night) (l : Leapt) (image session output log : List ℕ) {c : ℕ} {part rows image′ part′ rows′ : List ℕ}
-    (e : c ≡ sliceCycles (n .left)) (p : part ≡ drop (n .sent) output) (q : rows ≡ drop (n .logged) log)
     (a : answered (l .ran) (lending image′ part′ rows′)
-    ≡ answerOf (watching (take (n .length) session) c (n .watch)) (n .machine) (lending image part rows)) where
+    ≡ answerOf (watching (take (n .length) session) c (n .watch)) (n .machine) (lending image part rows))
+    (e : c ≡ sliceCycles (n .left)) (p : part ≡ drop (n .sent) output) (q : rows ≡ drop (n .logged) log) where
   abbrev asked : ℕ → Terms
   asked k = watching (take (n .length) session) k (n .watch)
 

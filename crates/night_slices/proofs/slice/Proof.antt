@@ -17,8 +17,9 @@ sent : (c : tie.After-slice-known10)
 sent c =
     let a = c .before .before .before .before .before .before .before .before .before .before .before .before .before .before .before .before .before .before .before .before .before .before .before .before .before .before .before .before .before .args in
     let l = c .before .before .before .before .before .before .before .before .before .before .before .before .before .before .before .before .watch-leaping in
-    sent-fits (a .night) (l .result) (a .image .now) (a .session .now) (a .output .now) (a .log .now) (c .before .before .before .before .before .before .before .before .before .before .before .before .before .before .before .before .before .before .before .slice-of .ensures)
-    (take-rest (a .night .sent) (a .output .now)) (take-rest (a .night .logged) (a .log .now)) (l .ensures .0) (c .before .before .before .before .before .before .before .before .before .before .before .before .before .before .before .before .before .before .before .before .before .before .before .before .before .before .before .before .before .pre .2)
+    sent-fits (a .night) (l .result) (a .image .now) (a .session .now) (a .output .now) (a .log .now) (l .ensures .0)
+    (c .before .before .before .before .before .before .before .before .before .before .before .before .before .before .before .before .before .before .before .slice-of .ensures)
+    (take-rest (a .night .sent) (a .output .now)) (take-rest (a .night .logged) (a .log .now)) (c .before .before .before .before .before .before .before .before .before .before .before .before .before .before .before .before .before .before .before .before .before .before .before .before .before .before .before .before .before .pre .2)
 
 logged : (c : tie.After-slice-known10)
     → let a = c .before .before .before .before .before .before .before .before .before .before .before .before .before .before .before .before .before .before .before .before .before .before .before .before .before .before .before .before .before .args in
@@ -26,8 +27,9 @@ logged : (c : tie.After-slice-known10)
 logged c =
     let a = c .before .before .before .before .before .before .before .before .before .before .before .before .before .before .before .before .before .before .before .before .before .before .before .before .before .before .before .before .before .args in
     let l = c .before .before .before .before .before .before .before .before .before .before .before .before .before .before .before .before .watch-leaping in
-    logged-fits (a .night) (l .result) (a .image .now) (a .session .now) (a .output .now) (a .log .now) (c .before .before .before .before .before .before .before .before .before .before .before .before .before .before .before .before .before .before .before .slice-of .ensures)
-    (take-rest (a .night .sent) (a .output .now)) (take-rest (a .night .logged) (a .log .now)) (l .ensures .0) (c .before .before .before .before .before .before .before .before .before .before .before .before .before .before .before .before .before .before .before .before .before .before .before .before .before .before .before .before .before .pre .3)
+    logged-fits (a .night) (l .result) (a .image .now) (a .session .now) (a .output .now) (a .log .now) (l .ensures .0)
+    (c .before .before .before .before .before .before .before .before .before .before .before .before .before .before .before .before .before .before .before .slice-of .ensures)
+    (take-rest (a .night .sent) (a .output .now)) (take-rest (a .night .logged) (a .log .now)) (c .before .before .before .before .before .before .before .before .before .before .before .before .before .before .before .before .before .before .before .before .before .before .before .before .before .before .before .before .before .pre .3)
 
 pub slice-spec : {M : Type 1} → statement M
 slice-spec =
@@ -69,8 +71,9 @@ slice-spec =
     let a = c .before .before .before .before .before .before .before .before .before .before .before .before .before .before .before .before .before .before .before .before .before .before .before .before .before .before .before .before .before .before .args in
     let l = c .before .before .before .before .before .before .before .before .before .before .before .before .before .before .before .before .before .watch-leaping in
     let k = c .before .before .before .before .before .keep in (
-      sliced (a .night) (l .result) (a .image .now) (a .session .now) (a .output .now) (a .log .now) (c .before .before .before .before .before .before .before .before .before .before .before .before .before .before .before .before .before .before .before .before .slice-of .ensures)
-          (take-rest (a .night .sent) (a .output .now)) (take-rest (a .night .logged) (a .log .now)) (l .ensures .0) (l .ensures .1)
+      sliced (a .night) (l .result) (a .image .now) (a .session .now) (a .output .now) (a .log .now) (l .ensures .0)
+          (c .before .before .before .before .before .before .before .before .before .before .before .before .before .before .before .before .before .before .before .before .slice-of .ensures)
+          (take-rest (a .night .sent) (a .output .now)) (take-rest (a .night .logged) (a .log .now)) (l .ensures .1)
           (k .result) (k .last .0) (k .ensures .0) (c .after .ensures)
           (put-end (a .night .sent) (a .output .now) (l .last .1 .1 .1 .1 .1 .0))
           (put-end (a .night .logged) (a .log .now) (l .last .1 .1 .1 .1 .1 .1 .0)),
