@@ -17,15 +17,9 @@ use Rattle.boundary.specs.Boundary.{runOf}
 use Rattle.boundary.specs.Start.{startWorld, ranOf}
 use Rattle.log_theorems.specs.Wakes.{rowsBytes, loggedRows, relogged, endedWith, wakesOf}
 use Rattle.log_theorems.proofs.Bytes.{rows-long}
-<<<<<<< HEAD
 use Rattle.log_theorems.proofs.Beside.{Follows, follows}
 use Rattle.log_theorems.proofs.Log.{rows-entries, log-left, log-room}
 use Rattle.cabinet_theorems.proofs.Left.{log-part}
-=======
-use Rattle.log_theorems.proofs.Boundaries.{Written}
-use Rattle.log_theorems.proofs.Beside.{Follows, follows}
-use Rattle.cabinet_theorems.proofs.Log.{log-part}
->>>>>>> theorems
 use Rattle.composing.proofs.Further.{not-log-full, run-further, run-same}
 
 -- rows in a log, and in another log that is fresh behind them
