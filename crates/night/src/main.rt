@@ -5,6 +5,7 @@ use counts::Cycles;
 use machine::Machine;
 use machine::Power;
 use night_arguments::Number;
+use night_slices::Night;
 use night_steps::Op;
 use saved::Loaded;
 ghost use mathlib.Core.Path.{_≡_};
@@ -116,6 +117,40 @@ fn give_up(state_name: &[u8], names: &[u8]) {
     night_commit::finish(false, state_name, names, b"", b"", b"", b"", b"");
 }
 
+// A night that has run: its files, or STATE.night is removed.
+fn keep(
+    state_name: &[u8],
+    names: &[u8],
+    night: Night,
+    image: &[u8],
+    session: &[u8],
+    output: &[u8],
+    log: &[u8],
+) {
+    let line = night.line();
+    if !night.has_stopped() {
+        give_up(state_name, names);
+        line.print();
+        return;
+    }
+    let mut machine = [0u8; 42];
+    saved::save(night.machine, &mut machine);
+    let end = night_commit::finish(
+        true,
+        state_name,
+        names,
+        image,
+        &machine,
+        cabinet::filled(session, night.length),
+        cabinet::filled(output, night.sent),
+        cabinet::filled(log, night.logged),
+    );
+    match end {
+        Op::Placed => line.print(),
+        _ => tell(end),
+    }
+}
+
 // A night from a machine, and its files.
 fn pass(
     state_name: &[u8],
@@ -144,28 +179,15 @@ fn pass(
         log,
         &mut spare,
     );
-    let line = night.line();
-    if !night.has_stopped() {
-        give_up(state_name, names);
-        line.print();
-        return;
-    }
-    let mut machine = [0u8; 42];
-    saved::save(night.machine, &mut machine);
-    let end = night_commit::finish(
-        true,
+    keep(
         state_name,
         names,
+        night,
         &image[..],
-        &machine,
-        cabinet::filled(&session[..], night.length),
-        cabinet::filled(&output, night.sent),
-        cabinet::filled(&log[..], night.logged),
+        &session[..],
+        &output,
+        &log[..],
     );
-    match end {
-        Op::Placed => line.print(),
-        _ => tell(end),
-    }
 }
 
 // The same, with room for a log where one is asked for.
