@@ -7,14 +7,12 @@ use mathlib.Core.Path.{_≡_, sym, ap, subst, _∙_}
 use lib.ListN.{length, take, drop, length-drop, drop-of-length-le}
 use Rattle.replies.specs.Replies.{toldReply}
 use Rattle.boundary.specs.World.{Lent, lending, withOutput, withLog, Terms, watching, later, loggedBytes}
-use Rattle.boundary.proofs.Output.{filled-part}
 use Rattle.cabinet.specs.declared.Leapt.{Leapt}
 use Rattle.cabinet.specs.Answers.{Answer, answered, answerOf, leapsOf}
-use Rattle.cabinet.proofs.Ends.{left-cases}
+use Rattle.cabinet_theorems.proofs.Left.{output-left, log-left}
 use Rattle.night_slices.specs.declared.Kept.{Kept}
 use Rattle.night_slices.specs.declared.Night.{Night}
 use Rattle.night_slices.specs.Slices.{sliceCycles, Standing, roundSum, Keeping, keepingOf, afterOf, sliceOf, kept, standing, nextOf}
-use Rattle.night_slices.proofs.Logging.{logged-within}
 
 -- a list whose end from a place on was changed
 pub put-end : (k : ℕ) (s t : List ℕ) → take k s ++ (t ++ drop (length s - k) (drop k s)) ≡ take k s ++ t
@@ -55,14 +53,13 @@ module _ (n : Night) (l : Leapt) (image session output log : List ℕ) {c : ℕ}
 
   pub sent-fits : n .sent ≤ length output → n .sent + l .ran .sent .0 ≤ length output
   sent-fits h =
-      let given = lending image part rows in
-      let s = left-cases (asked c) (n .machine) given (λ w. w .state .sent .0 ≤ length part) (omega arith) (λ f. filled-part (asked c) (n .machine) given .0) in
-      fitted (n .sent) (l .ran .sent .0) output part (ap (λ (x : Answer). x .sent) a) s p h
+      fitted (n .sent) (l .ran .sent .0) output part (ap (λ (x : Answer). x .sent) a)
+      (output-left (asked c) (n .machine) (lending image part rows) .0) p h
 
   pub logged-fits : n .logged ≤ length log → n .logged + loggedBytes (n .watch) (l .ran .entries .0) ≤ length log
   logged-fits h =
       fitted (n .logged) (loggedBytes (n .watch) (l .ran .entries .0)) log rows (ap (λ (x : Answer). loggedBytes (n .watch) (x .entries)) a)
-      (logged-within (asked c) (n .machine) (lending image part rows)) q h
+      (log-left (asked c) (n .machine) (lending image part rows) .0) q h
 
   -- the run was asked and lent what a slice is
   abbrev given : Lent

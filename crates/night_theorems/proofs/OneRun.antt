@@ -1,4 +1,5 @@
--- A night is one run: the slices of any N end as the one run of N does, in all but the leaps and the number of slices. Assumes nothing.
+-- A night is one run: the slices of any N end as the one run of N does, in all but the leaps and the number of slices. The night's log is the
+-- one run's log. Assumes nothing.
 use Prim.Native.Nat.{ℕ, zero, suc, _+_, _-_, _≤_, _<_, _%_, _^_}
 use native.Mathlib.Nat.{zero-add, add-assoc}
 use native.Mathlib.Omega.{arith}
@@ -6,11 +7,10 @@ use mathlib.Core.List.{List, _++_, append-assoc}
 use mathlib.Core.Option.{none}
 use mathlib.Core.Path.{_≡_, refl, sym, ap, subst, _∙_}
 use mathlib.Core.Bool.{Bool, true, false, _&&_}
-use lib.Dec.{eqb, ltb, leb}
+use lib.Dec.{eqb, ltb}
 use lib.ListN.{length, take, drop, length-append}
 use lib.Seq.{length-take-le, take-append-add, drop-append-add}
-use borrow.Author.Tests.{le-ltb, ltb-false, leb-true, leb-false}
-use Rattle.turns.specs.Turn.{Turn, more, done, Then}
+use borrow.Author.Tests.{le-ltb, ltb-false}
 use Rattle.laws.proofs.Conds.{picks, passes}
 use Rattle.session.specs.Session.{checkOf}
 use Rattle.session.specs.declared.Checked.the-variants.{Sound}
@@ -19,56 +19,49 @@ use Rattle.machine.specs.declared.Machine.{Machine}
 use Rattle.machine.specs.Machine.{Ranges, rangesOf}
 use Rattle.machine.proofs.Ranges.{ranges-say, say-ranges}
 use Rattle.boundary.specs.declared.Stop.{Stop}
-use Rattle.boundary.specs.declared.Stop.the-variants.{Limit, Undefined, Full}
-use Rattle.boundary.specs.World.{Lent, withOutput, Terms, terms, World, Ended, stopNumber}
-use Rattle.boundary.specs.Boundary.{fedWorld, sendOf, boundaryOf, runOf}
+use Rattle.boundary.specs.declared.Stop.the-variants.{Limit, Undefined, Full, LogFull}
+use Rattle.boundary.specs.declared.Watch.{Watch}
+use Rattle.boundary.specs.World.{Lent, withOutput, withLog, Terms, watching, later, loggedBytes, World, Ended, endedOf, stopNumber}
+use Rattle.boundary.specs.Boundary.{runOf}
 use Rattle.boundary.specs.Start.{startWorld, ranOf}
-use Rattle.boundary.proofs.Cases.{at-limit, below-limit}
-use Rattle.boundary.proofs.Runs.{run-more, run-done, run-keeps}
+use Rattle.boundary.proofs.Cases.{at-limit}
+use Rattle.boundary.proofs.Runs.{run-done}
 use Rattle.boundary.proofs.Kept.{image-length}
 use Rattle.boundary.proofs.Output.{filled-part}
 use Rattle.boundary_theorems.proofs.InRanges.{run-ranges}
 use Rattle.cabinet.specs.Answers.{toldStop, End, endAt, endOf, Answer, answerAt}
 use Rattle.cabinet_theorems.proofs.Exactly.{admitted-end}
+use Rattle.cabinet_theorems.proofs.Left.{log-part}
 use Rattle.rest.specs.Rest.{placeOf, restOf}
 use Rattle.rest.proofs.Exactly.{rest-written}
 use Rattle.composing.specs.Joined.{lentAfter, termsAfter}
+use Rattle.composing.proofs.Further.{run-further, run-same}
+use Rattle.composing.proofs.Fresh.{Resumes}
 use Rattle.composing.proofs.Raised.{raised, Ends}
 use Rattle.composing.proofs.Second.{pastOf, restAfter, used-within, after-sound, after-short, runs-raise}
 use Rattle.night_slices.specs.Slices.{sliceCycles, Standing, roundSum, Keeping, keeping, onKeep, keepingOf}
 use Rattle.night_slices.specs.Slices.{afterOf, sliceOf, goesOn, slicesOf, nightAt, nightOf}
 use Rattle.night_slices.proofs.Going.{slice-falls, slices-more, slices-done}
 
--- a boundary uses its limit for the test of it and for no more: a run that was not stopped by its limit, or that was stopped where a limit
--- no lower is reached too, is the run of that limit
-module _ (session : List ℕ) (n₁ n : ℕ) (l : n₁ ≤ n) (w₀ : World) where
-  abbrev Passes : World → Type 0
-  Passes w = runOf (terms session n) w₀ ≡ runOf (terms session n) w
+-- a run that was not stopped by its limit, or that was stopped where a limit no lower is reached too, is the run of that limit
+module _ (session : List ℕ) (watch : Watch) (n₁ n : ℕ) (l : n₁ ≤ n) (w : World) where
+  abbrev end : Ended
+  end = runOf (watching session n₁ watch) w
 
-  abbrev Whole : Ended → Type 0
-  Whole e = (e .stop ≡ Limit → n ≤ e .world .state .cycles .0) → runOf (terms session n) w₀ ≡ e
-
-  turn-whole : (w : World) → Passes w → Then Passes Whole (boundaryOf (terms session n₁) w)
-  turn-whole w p = by (leb n₁ (w .state .cycles .0)) refl
+  run-whole : (end .stop ≡ Limit → n ≤ end .world .state .cycles .0) → runOf (watching session n watch) w ≡ end
+  run-whole h = by (end .stop) refl
     where
-      here : World
-      here = fedWorld session w
+      otherwise : {k : Stop} → end .stop ≡ k → 0 < stopNumber k → runOf (watching session n watch) w ≡ end
+      otherwise q p = run-same session watch n₁ n l w (λ r. let z = ap stopNumber (sym q ∙ r) in let y : ⊥ = omega (arith, z, p) in y)
 
-      on : (t : Turn World Ended) → boundaryOf (terms session n) w ≡ t → Then Passes Whole t
-      on (more v) e = p ∙ run-more (terms session n) w e
-      on (done x) e = λ _. p ∙ run-done (terms session n) w e
-
-      by : (b : Bool) → leb n₁ (w .state .cycles .0) ≡ b → Then Passes Whole (boundaryOf (terms session n₁) w)
-      by true e =
-          subst (Then Passes Whole) (sym (at-limit (w .state) (w .lent) (terms session n₁) (leb-true _ _ e)))
-          (λ q. p ∙ run-done (terms session n) w (at-limit (w .state) (w .lent) (terms session n) (q refl)))
-      by false e =
-          let h = leb-false n₁ (w .state .cycles .0) e in
-          subst (Then Passes Whole) (sym (below-limit (w .state) (w .lent) (terms session n₁) h))
-          (on (sendOf here) (below-limit (w .state) (w .lent) (terms session n) (omega arith)))
-
-  run-whole : Whole (runOf (terms session n₁) w₀)
-  run-whole = run-keeps (terms session n₁) Passes Whole turn-whole w₀ refl
+      by : (k : Stop) → end .stop ≡ k → runOf (watching session n watch) w ≡ end
+      by Limit q =
+          run-further session watch n₁ n l w q
+          ∙ run-done (watching session n watch) (end .world) (at-limit (end .world .state) (end .world .lent) (watching session n watch) (h q))
+          ∙ ap (λ (k : Stop). endedOf k (end .world)) (sym q)
+      by Undefined q = otherwise q (omega arith)
+      by Full q = otherwise q (omega arith)
+      by LogFull q = otherwise q (omega arith)
 
 -- sums that go round, and lists that were put together
 pub sum-twice : (a b c : ℕ) → roundSum a (b + c) ≡ roundSum (roundSum a b) c
@@ -121,16 +114,19 @@ summed s a =
       entries = roundSum (s .entries) (a .entries);
       used = roundSum (s .used) (a .used);
       sent = s .sent + a .sent;
-      lent = withOutput (a .lent) (take (s .sent) (s .lent .output) ++ a .lent .output);
+      lent = withLog (withOutput (a .lent) (take (s .sent) (s .lent .output) ++ a .lent .output)) (take (s .logged) (s .lent .log) ++ a .lent .log);
     }
 
 -- what a run that was not refused answers
 abbrev ended : Ended → End
 ended e = endAt (toldStop (e .stop)) (e .world)
 
--- the run of n from where a night stands, and the night after a slice that ended so
+-- the run of n from where a night stands, with the room that is left, and the night after a slice that ended so
+abbrev pub roomLeft : Standing → Lent
+roomLeft s = withLog (withOutput (s .lent) (drop (s .sent) (s .lent .output))) (drop (s .logged) (s .lent .log))
+
 abbrev pub runFrom : Standing → ℕ → Ended
-runFrom s n = ranOf (terms (s .session) n) (s .machine) (lentAfter (s .sent) (s .lent))
+runFrom s n = ranOf (watching (s .session) n (s .watch)) (s .machine) (roomLeft s)
 
 abbrev pub keptAfter : Standing → World → Keeping → Standing
 keptAfter s w k =
@@ -138,15 +134,17 @@ keptAfter s w k =
     record {
       told = k .told;
       machine = x .machine;
-      lent = withOutput (w .lent) (take (s .sent) (s .lent .output) ++ w .lent .output);
+      lent = withLog (withOutput (w .lent) (take (s .sent) (s .lent .output) ++ w .lent .output)) (take (s .logged) (s .lent .log) ++ w .lent .log);
       session = k .session;
       left = s .left - x .cycles .0;
+      watch = later (s .watch) (x .cycles .0);
       slices = roundSum (s .slices) 1;
       cycles = roundSum (s .cycles) (x .cycles .0);
       instructions = roundSum (s .instructions) (x .instructions .0);
       entries = roundSum (s .entries) (x .entries .0);
       used = roundSum (s .used) (x .used .0);
       sent = s .sent + x .sent .0;
+      logged = s .logged + loggedBytes (s .watch) (x .entries .0);
       leaps = roundSum (s .leaps) (x .leaps .0);
     }
 
@@ -160,6 +158,7 @@ stop-stops : (k : Stop) → stops (stopNumber k) ≡ true
 stop-stops Limit = refl
 stop-stops Undefined = refl
 stop-stops Full = refl
+stop-stops LogFull = refl
 
 keeps-rest : (k : Stop) (session : List ℕ) (used cycles : ℕ) → checkOf session ≡ Sound → placeOf session used ≤ length session
     → length (restOf session used cycles) ≤ length session
@@ -181,22 +180,27 @@ pub by-limit : (k : Stop) (b : Bool) → (eqb (stopNumber k) 0 && b) ≡ true �
 by-limit Limit b e = refl
 by-limit Undefined b e = absurd (let z : _≡_ {A = ℕ} 0 1 = cc in let w : ⊥ = omega arith in w)
 by-limit Full b e = absurd (let z : _≡_ {A = ℕ} 0 1 = cc in let w : ⊥ = omega arith in w)
+by-limit LogFull b e = absurd (let z : _≡_ {A = ℕ} 0 1 = cc in let w : ⊥ = omega arith in w)
+
+-- what stands before a place, a filled part and what follows it, in the one buffer and in the other
+seam : (i j : ℕ) (whole new last : List ℕ) → i ≤ length whole → take i whole ++ (take j new ++ last) ≡ take (i + j) (take i whole ++ new) ++ last
+seam i j whole new last h =
+    sym (append-assoc (take i whole) (take j new) last)
+    ∙ ap (λ (o : List ℕ). o ++ last) (sym (seam-take i j whole new h))
 
 -- a run's answer after a slice's is the answer of both after the night before
-joins : (s : Standing) (e : Ended) (t : Told) (v : World) (leaps : ℕ) (inside : Bool) → s .sent ≤ length (s .lent .output)
+joins : (s : Standing) (e : Ended) (t : Told) (v : World) (leaps : ℕ) (inside : Bool)
+    → s .sent ≤ length (s .lent .output) → s .logged ≤ length (s .lent .log)
     → length (take (e .world .state .sent .0) (e .world .lent .output)) ≡ e .world .state .sent .0
-    → summed s (answerAt (endAt t (raised (pastOf (e .world)) v leaps inside))) ≡ summed (next s e) (answerAt (endAt t v))
-joins s e t v leaps inside h l =
+    → summed s (answerAt (endAt t (raised (pastOf (s .watch) (e .world)) v leaps inside))) ≡ summed (next s e) (answerAt (endAt t v))
+joins s e t v leaps inside h g l =
     let x = e .world .state in
     let y = v .state in
-    let front = take (s .sent) (s .lent .output) in
-    let new = e .world .lent .output in
-    let last = v .lent .output in
-    let sums : s .sent + (length (take (x .sent .0) new) + y .sent .0) ≡ s .sent + x .sent .0 + y .sent .0 =
+    let new = e .world .lent in
+    let sums : s .sent + (length (take (x .sent .0) (new .output)) + y .sent .0) ≡ s .sent + x .sent .0 + y .sent .0 =
     ap (λ (j : ℕ). s .sent + (j + y .sent .0)) l ∙ sym (add-assoc (s .sent) (x .sent .0) (y .sent .0)) in
-    let outputs : front ++ (take (x .sent .0) new ++ last) ≡ take (s .sent + x .sent .0) (front ++ new) ++ last =
-    sym (append-assoc front (take (x .sent .0) new) last)
-    ∙ ap (λ (o : List ℕ). o ++ last) (sym (seam-take (s .sent) (x .sent .0) (s .lent .output) new h)) in
+    let outputs = seam (s .sent) (x .sent .0) (s .lent .output) (new .output) (v .lent .output) h in
+    let logs = seam (s .logged) (loggedBytes (s .watch) (x .entries .0)) (s .lent .log) (new .log) (v .lent .log) g in
     λ k. record {
       reply = t;
       machine = y .machine;
@@ -205,7 +209,7 @@ joins s e t v leaps inside h l =
       entries = sum-twice (s .entries) (x .entries .0) (y .entries .0) k;
       used = sum-twice (s .used) (x .used .0) (y .used .0) k;
       sent = sums k;
-      lent = withOutput (v .lent) (outputs k);
+      lent = withLog (withOutput (v .lent) (outputs k)) (logs k);
     }
 
 -- where no slice is refused
@@ -214,16 +218,17 @@ pub record Good (s : Standing) : Type 0 where
   pub in-ranges : rangesOf (s .machine) ≡ true
   pub sound : checkOf (s .session) ≡ Sound
   pub fits : s .sent ≤ length (s .lent .output)
+  pub log-fits : s .logged ≤ length (s .lent .log)
 
 module _ (s : Standing) (g : Good s) where
   abbrev pub n₁ : ℕ
   n₁ = sliceCycles (s .left)
 
   abbrev pub asked : Terms
-  asked = terms (s .session) n₁
+  asked = watching (s .session) n₁ (s .watch)
 
   abbrev pub given : Lent
-  given = lentAfter (s .sent) (s .lent)
+  given = roomLeft s
 
   abbrev pub first : Ended
   first = runFrom s n₁
@@ -241,43 +246,53 @@ module _ (s : Standing) (g : Good s) where
       ap (λ (x : End). afterOf s (answerAt x) (x .world .state .leaps .0)) slice-ends
       ∙ ap (keptAfter s (first .world))
       (keeps-rest (first .stop) (s .session) _ _ (g .sound)
-      (used-within (s .session) (s .machine) given n₁ (g .sound))
-      (after-short (s .session) (s .machine) given n₁ (g .sound)))
+      (used-within (s .session) (s .watch) (s .machine) given n₁ (g .sound))
+      (after-short (s .session) (s .watch) (s .machine) given n₁ (g .sound)))
 
   pub next-good : Good (next s first)
   next-good =
       let f = filled-part asked (s .machine) given in
+      let g₂ = log-part asked (s .machine) given in
       let x = first .world in
+      let rows = loggedBytes (s .watch) (x .state .entries .0) in
       record {
         image-long = image-length asked (startWorld (s .machine) given) ∙ g .image-long;
         in-ranges = run-ranges asked (s .machine) given (g .sound) (g .in-ranges);
-        sound = after-sound (s .session) (s .machine) given n₁ (g .sound);
+        sound = after-sound (s .session) (s .watch) (s .machine) given n₁ (g .sound);
         fits = seam-fits (s .sent) (x .state .sent .0) (s .lent .output) (x .lent .output) (g .fits)
             (subst (λ (k : ℕ). x .state .sent .0 ≤ k) (sym (f .1)) (f .0));
+        log-fits = seam-fits (s .logged) rows (s .lent .log) (x .lent .log) (g .log-fits) (subst (λ (k : ℕ). rows ≤ k) (sym (g₂ .1)) (g₂ .0));
       }
 
   -- the last slice is the whole run
   pub last-whole : goesOn (next s first) ≡ false → runFrom s (s .left) ≡ first
   last-whole f =
-      run-whole (s .session) n₁ (s .left) (slice-least (s .left)) (startWorld (s .machine) given)
+      run-whole (s .session) (s .watch) n₁ (s .left) (slice-least (s .left)) (startWorld (s .machine) given)
       (reached (first .stop) (s .left) (first .world .state .cycles .0) f)
 
   -- and after one that goes on, what follows it is the rest of the run
   abbrev pub second : Ended
   second =
       let x = first .world .state in
-      ranOf (termsAfter (x .used .0) (x .cycles .0) (terms (s .session) (s .left))) (x .machine) (lentAfter (x .sent .0) (first .world .lent))
+      ranOf (termsAfter (x .used .0) (x .cycles .0) (watching (s .session) (s .left) (s .watch))) (x .machine)
+      (lentAfter (s .watch) (x .sent .0) (x .entries .0) (first .world .lent))
 
   pub next-run : second ≡ runFrom (next s first) (next s first .left)
   next-run =
       let w = first .world in
       let x = w .state in
-      ap (λ (o : List ℕ). ranOf (termsAfter (x .used .0) (x .cycles .0) (terms (s .session) (s .left))) (x .machine) (withOutput (w .lent) o))
-      (sym (seam-drop (s .sent) (x .sent .0) (s .lent .output) (w .lent .output) (g .fits)))
+      let rows = loggedBytes (s .watch) (x .entries .0) in
+      let outputs = sym (seam-drop (s .sent) (x .sent .0) (s .lent .output) (w .lent .output) (g .fits)) in
+      let logs = sym (seam-drop (s .logged) rows (s .lent .log) (w .lent .log) (g .log-fits)) in
+      λ k. ranOf (termsAfter (x .used .0) (x .cycles .0) (watching (s .session) (s .left) (s .watch))) (x .machine)
+      (withLog (withOutput (w .lent) (outputs k)) (logs k))
 
   pub goes-raised : goesOn (next s first) ≡ true
-      → Ends (s .session) (restAfter (s .session) (s .machine) given n₁) (pastOf (first .world)) (first .world .state .leaps .0) (runFrom s (s .left)) second
-  goes-raised f = runs-raise (s .session) (s .machine) given n₁ (g .sound) (s .left) (slice-least (s .left)) (by-limit (first .stop) _ f)
+      → Ends (s .session) (restAfter (s .session) (s .watch) (s .machine) given n₁) (pastOf (s .watch) (first .world)) (first .world .state .leaps .0)
+      (runFrom s (s .left)) second
+  goes-raised f =
+      runs-raise (s .session) (s .watch) (s .machine) given n₁ (g .sound) (s .left) (slice-least (s .left))
+      (subst Resumes (sym (by-limit (first .stop) _ f)) tt)
 
   goes-whole : goesOn (next s first) ≡ true
       → summed s (answerAt (ended (runFrom s (s .left)))) ≡ summed (next s first) (answerAt (ended (runFrom (next s first) (next s first .left))))
@@ -285,7 +300,7 @@ module _ (s : Standing) (g : Good s) where
       let r = goes-raised f in
       ap (λ (k : Stop). summed s (answerAt (endAt (toldStop k) (runFrom s (s .left) .world)))) (r .0)
       ∙ ap (λ (z : World). summed s (answerAt (endAt (toldStop (second .stop)) z))) (r .1 .same)
-      ∙ joins s first (toldStop (second .stop)) (second .world) (r .1 .leaps) (r .1 .inside) (g .fits) (filled-part asked (s .machine) given .2)
+      ∙ joins s first (toldStop (second .stop)) (second .world) (r .1 .leaps) (r .1 .inside) (g .fits) (g .log-fits) (filled-part asked (s .machine) given .2)
       ∙ ap (λ (x : Ended). summed (next s first) (answerAt (ended x))) next-run
 
 -- from any standing on, the slices are the one run of the cycles that are left
@@ -310,8 +325,8 @@ slices-run (suc k) s g l = by (λ t. slices-run k t) (goesOn (sliceOf s)) refl
         ap shown (slices-done s f ∙ e)
         ∙ ap (λ (x : Ended). summed s (answerAt (ended x))) (sym (last-whole s g (subst (λ (x : Standing). goesOn x ≡ false) e f)))
 
--- A night ended as a run did: its reply, machine, image, output and bytes sent are the run's, and its sums are the run's counts, which go
--- round at 2^64.
+-- A night ended as a run did: its reply, machine, image, output, log and bytes sent are the run's, and its sums are the run's counts, which
+-- go round at 2^64.
 pub record EndsAs (s : Standing) (e : Ended) : Type 0 where
   pub told : s .told ≡ toldStop (e .stop)
   pub machine : s .machine ≡ e .world .state .machine
@@ -328,7 +343,7 @@ module _ (asked : Terms) (m : Machine) (given : Lent)
   pub slices-one-run : EndsAs (slicesOf (nightAt (told 0 none) asked m given)) (ranOf asked m given)
   slices-one-run =
       let s = nightAt (told 0 none) asked m given in
-      let good : Good s = record { image-long = long; in-ranges = say-ranges (m .chip .bus) ranges; sound = sound; fits = omega arith } in
+      let good : Good s = record { image-long = long; in-ranges = say-ranges (m .chip .bus) ranges; sound = sound; fits = omega arith; log-fits = omega arith } in
       let p = slices-run (suc (asked .limit)) s good (omega arith) in
       record {
         told = ap (λ (a : Answer). a .reply) p;

@@ -1,5 +1,5 @@
--- Any two results that the contract of `run_night` admits agree in the reply, the machine, the image, the output, the rest of the session,
--- the cycles that are left and the sums. They may differ in the bytes of the session's buffer after the rest. Assumes nothing.
+-- Any two results that the contract of `run_night` admits agree in the reply, the machine, the image, the output, the log, the rest of the
+-- session, the cycles that are left, what is watched and the sums. They may differ in the bytes of the session's buffer after the rest. Assumes nothing.
 use Prim.Native.Nat.{ℕ, _≤_, _<_}
 use native.Mathlib.Omega.{arith}
 use mathlib.Core.List.{List}
@@ -7,7 +7,7 @@ use mathlib.Core.Path.{_≡_, refl, sym, ap, _∙_}
 use lib.ListN.{take}
 use Rattle.replies.specs.Replies.{Told, toldReply}
 use Rattle.replies.specs.declared.Reply.{Reply}
-use Rattle.replies.specs.declared.Reply.the-variants.{Limit, WrongImage, WrongMachine, WrongLimit, Length, Kind, Value, Time, Undefined, Full}
+use Rattle.replies.specs.declared.Reply.the-variants.{Limit, WrongImage, WrongMachine, WrongLimit, Length, Kind, Value, Time, Undefined, Full, LogFull}
 use Rattle.replies.proofs.Known.{reply-known}
 use Rattle.machine.specs.declared.Machine.{Machine}
 use Rattle.boundary.specs.World.{Lent, Terms}
@@ -28,6 +28,7 @@ run-number (Value k) = omega arith
 run-number (Time k) = omega arith
 run-number Undefined = omega arith
 run-number Full = omega arith
+run-number LogFull = omega arith
 
 apart : {R : Type 0} (a b : Told) → a ≡ b → a .number < 30 → 30 ≤ b .number → R
 apart a b e l h = let n = ap (λ (t : Told). t .number) e in absurd (let z : ⊥ = omega arith in z)
@@ -55,12 +56,14 @@ pub record NightsAgree (a b : NightLeft) : Type 0 where
   pub lent : a .lent ≡ b .lent
   pub rest : take (a .night .length) (a .buffer) ≡ take (b .night .length) (b .buffer)
   pub left : a .night .left ≡ b .night .left
+  pub watch : a .night .watch ≡ b .night .watch
   pub slices : a .night .slices ≡ b .night .slices
   pub cycles : a .night .cycles ≡ b .night .cycles
   pub instructions : a .night .instructions ≡ b .night .instructions
   pub entries : a .night .entries ≡ b .night .entries
   pub used : a .night .used ≡ b .night .used
   pub sent : a .night .sent ≡ b .night .sent
+  pub logged : a .night .logged ≡ b .night .logged
   pub leaps : a .night .leaps ≡ b .night .leaps
 
 module _ (asked : Terms) (m : Machine) (given : Lent) (room : ℕ) where
@@ -77,11 +80,13 @@ module _ (asked : Terms) (m : Machine) (given : Lent) (room : ℕ) where
         lent = ap (λ (s : Standing). s .lent) e;
         rest = ap (λ (s : Standing). s .session) e;
         left = ap (λ (s : Standing). s .left) e;
+        watch = ap (λ (s : Standing). s .watch) e;
         slices = λ k. record { 0 = e k .slices };
         cycles = λ k. record { 0 = e k .cycles };
         instructions = λ k. record { 0 = e k .instructions };
         entries = λ k. record { 0 = e k .entries };
         used = λ k. record { 0 = e k .used };
         sent = ap (λ (s : Standing). s .sent) e;
+        logged = ap (λ (s : Standing). s .logged) e;
         leaps = λ k. record { 0 = e k .leaps };
       }

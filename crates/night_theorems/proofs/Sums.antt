@@ -1,12 +1,13 @@
--- What a night sums up and leaves, beside the one run: its rest is the run's rest, its sums are the run's counts and pass no type, and its
--- leaps are the run's, or more by at most one for each cut. Assumes nothing.
-use Prim.Native.Nat.{ℕ, zero, suc, _+_, _-_, _/_, _≤_, _<_, _%_, _^_}
+-- What a night sums up and leaves, beside the one run: its rest is the run's rest, its sums are the run's counts and pass no type, its
+-- rows are those of the run's entries, and its leaps are the run's, or more by at most one for each cut. Assumes nothing.
+use Prim.Native.Nat.{ℕ, zero, suc, _+_, _-_, _*_, _/_, _≤_, _<_, _%_, _^_}
+use native.Mathlib.Nat.{zero-add}
 use native.Mathlib.Omega.{arith}
 use mathlib.Core.Option.{none}
 use mathlib.Core.Path.{_≡_, refl, sym, ap, subst, _∙_}
-use mathlib.Core.Bool.{Bool, true, false}
+use mathlib.Core.Bool.{Bool, true, false, cond}
 use lib.Dec.{eqb}
-use lib.ListN.{length}
+use lib.ListN.{length, take}
 use borrow.Author.Tests.{le-ltb, ltb-true}
 use Rattle.laws.proofs.Bools.{both}
 use Rattle.laws.proofs.Conds.{passes}
@@ -16,18 +17,22 @@ use Rattle.replies.specs.Replies.{told}
 use Rattle.machine.specs.declared.Machine.{Machine}
 use Rattle.machine.specs.Machine.{Ranges}
 use Rattle.machine.proofs.Ranges.{say-ranges}
-use Rattle.boundary.specs.World.{Lent, Terms, World, Ended, stopNumber}
+use Rattle.boundary.specs.World.{Lent, Terms, later, loggedBytes, World, Ended, stopNumber}
 use Rattle.boundary.specs.declared.Stop.{Stop}
+use Rattle.boundary.specs.declared.Watch.{Watch}
 use Rattle.boundary.specs.Start.{startWorld, ranOf}
 use Rattle.boundary.proofs.Kept.{Reached, limit-reached, cycles-bound, counts-fine, place-within}
 use Rattle.rest.specs.Rest.{restOf}
 use Rattle.rest.proofs.Again.{rest-of-rest}
+use Rattle.log_theorems.specs.Wakes.{rowsBytes, wakesOf}
+use Rattle.log_theorems.proofs.Log.{log-filled}
+use Rattle.composing.proofs.Rows.{cycle-later}
 use Rattle.composing.proofs.Raised.{apart-most}
 use Rattle.composing.proofs.Second.{used-within}
 use Rattle.night_slices.specs.Slices.{Standing, roundSum, sliceOf, goesOn, slicesOf, nightAt, nightOf}
 use Rattle.night_slices.proofs.Going.{slice-falls, slices-more, slices-done}
 use Rattle.night_theorems.proofs.OneRun.{sum-twice, below, runFrom, next, by-limit, Good, n₁, asked, given, first, slice-next, next-good, last-whole}
-use Rattle.night_theorems.proofs.OneRun.{second, next-run, goes-raised, slices-one-run}
+use Rattle.night_theorems.proofs.OneRun.{second, next-run, goes-raised, slices-one-run, night-one-run}
 
 -- what the slices from a standing on come to, beside the one run of the cycles that are left
 record SlicesCome (s : Standing) (e : Ended) (end : Standing) : Type 0 where
@@ -40,6 +45,17 @@ record SlicesCome (s : Standing) (e : Ended) (end : Standing) : Type 0 where
   leaps-most : leaps + 1 ≤ e .world .state .leaps .0 + slices
   rest : end .session ≡ restOf (s .session) (e .world .state .used .0) (e .world .state .cycles .0)
   left : end .left ≡ s .left - e .world .state .cycles .0
+  watch : end .watch ≡ later (s .watch) (e .world .state .cycles .0)
+  logged : end .logged ≡ s .logged + loggedBytes (s .watch) (e .world .state .entries .0)
+
+-- the bytes of rows that were added in turn
+logged-twice : (asked : Bool) (k a b : ℕ) → k + cond asked (8 * a) 0 + cond asked (8 * b) 0 ≡ k + cond asked (8 * (a + b)) 0
+logged-twice true k a b = omega arith
+logged-twice false k a b = omega arith
+
+-- .. and the cycles before them
+later-twice : (watch : Watch) (a b : ℕ) → later (later watch a) b ≡ later watch (a + b)
+later-twice watch a b = λ k. record { log = watch .log; since = record { 0 = sym (cycle-later (watch .since .0) a b) k } }
 
 module _ (s : Standing) (g : Good s) where
   -- the last slice
@@ -55,6 +71,8 @@ module _ (s : Standing) (g : Good s) where
         leaps-most = omega arith;
         rest = refl;
         left = refl;
+        watch = refl;
+        logged = refl;
       }
 
   -- a slice that goes on, and those after it
@@ -70,6 +88,7 @@ module _ (s : Standing) (g : Good s) where
       let one = runFrom s (s .left) .world .state in
       let r = goes-raised s g f .1 in
       let used : one .used .0 ≡ x .used .0 + y .used .0 = ap (λ (w : World). w .state .used .0) (r .same) in
+      let entries : one .entries .0 ≡ x .entries .0 + y .entries .0 = ap (λ (w : World). w .state .entries .0) (r .same) in
       let cycles : one .cycles .0 ≡ x .cycles .0 + y .cycles .0 = ap (λ (w : World). w .state .cycles .0) (r .same) in
       let leaps : one .leaps .0 ≡ r .leaps = ap (λ (w : World). w .state .leaps .0) (r .same) in
       let low = r .apart .low in
@@ -88,10 +107,14 @@ module _ (s : Standing) (g : Good s) where
         leaps-most = omega (arith, leaps, most, b);
         rest = c .rest
             ∙ rest-of-rest (s .session) (x .used .0) (x .cycles .0) (g .sound)
-            (used-within (s .session) (s .machine) (given s g) (n₁ s g) (g .sound)) (y .used .0) (y .cycles .0)
+            (used-within (s .session) (s .watch) (s .machine) (given s g) (n₁ s g) (g .sound)) (y .used .0) (y .cycles .0)
             ∙ ap (λ (k : ℕ). restOf (s .session) k (x .cycles .0 + y .cycles .0)) (sym used)
             ∙ ap (restOf (s .session) (one .used .0)) (sym cycles);
         left = omega (arith, left, cycles);
+        watch = c .watch ∙ later-twice (s .watch) (x .cycles .0) (y .cycles .0) ∙ ap (later (s .watch)) (sym cycles);
+        logged = c .logged
+            ∙ logged-twice (s .watch .log) (s .logged) (x .entries .0) (y .entries .0)
+            ∙ ap (λ (k : ℕ). s .logged + loggedBytes (s .watch) k) (sym entries);
       }
 
 slices-come : (k : ℕ) (s : Standing) → Good s → s .left < k → SlicesCome s (runFrom s (s .left)) (slicesOf s)
@@ -113,11 +136,14 @@ slices-come (suc k) s g l = by (λ t. slices-come k t) (goesOn (sliceOf s)) refl
         subst (SlicesCome s (runFrom s (s .left))) (sym (slices-done s f ∙ e))
         (subst (λ (x : Ended). SlicesCome s x (next s (first s g))) (sym (last-whole s g (subst (λ (x : Standing). goesOn x ≡ false) e f))) (last-comes s g))
 
--- A night's rest, the cycles that are left and its sums are those of the run, with no going round; it has no more slices than it needs, and
--- its leaps are the run's, or more by at most one for each slice but the first.
+-- A night's rest, the cycles that are left, the bytes of its log that are filled and its sums are those of the run, with no going round; a
+-- further run's rows would count on from there; it has no more slices than it needs, and its leaps are the run's, or more by at most one
+-- for each slice but the first.
 pub record SumsAs (s : Standing) (asked : Terms) (e : Ended) : Type 0 where
   pub session : s .session ≡ restOf (asked .session) (e .world .state .used .0) (e .world .state .cycles .0)
   pub left : s .left ≡ asked .limit - e .world .state .cycles .0
+  pub watch : s .watch ≡ later (asked .watch) (e .world .state .cycles .0)
+  pub logged : s .logged ≡ loggedBytes (asked .watch) (e .world .state .entries .0)
   pub cycles : s .cycles ≡ e .world .state .cycles .0
   pub instructions : s .instructions ≡ e .world .state .instructions .0
   pub entries : s .entries ≡ e .world .state .entries .0
@@ -140,7 +166,7 @@ module _ (asked : Terms) (m : Machine) (given : Lent)
   pub slices-sums : SumsAs (slicesOf (nightAt (told 0 none) asked m given)) asked (ranOf asked m given)
   slices-sums =
       let s = nightAt (told 0 none) asked m given in
-      let good : Good s = record { image-long = long; in-ranges = say-ranges (m .chip .bus) ranges; sound = sound; fits = omega arith } in
+      let good : Good s = record { image-long = long; in-ranges = say-ranges (m .chip .bus) ranges; sound = sound; fits = omega arith; log-fits = omega arith } in
       let c = slices-come (suc (asked .limit)) s good (omega arith) in
       let ends = slices-one-run asked m given long ranges sound in
       let cycles = cycles-bound asked m given in
@@ -158,6 +184,8 @@ module _ (asked : Terms) (m : Machine) (given : Lent)
       record {
         session = c .rest;
         left = c .left;
+        watch = c .watch;
+        logged = c .logged ∙ zero-add _;
         cycles = as-it-is (ends .cycles) (omega (arith, cycles, n-fits));
         instructions = as-it-is (ends .instructions) (omega (arith, cycles, i, n-fits));
         entries = as-it-is (ends .entries) (omega (arith, cycles, n, n-fits));
@@ -172,3 +200,13 @@ module _ (asked : Terms) (m : Machine) (given : Lent)
   unfolding nightOf
   night-sums room l =
       subst (λ (s : Standing). SumsAs s asked (ranOf asked m given)) (sym (passes _ _ (le-ltb room (length (asked .session)) l))) slices-sums
+
+  -- "the night's log is the one run's log": the filled part is the rows of the one run's entries
+  pub night-rows : asked .watch .log ≡ true → (room : ℕ) → length (asked .session) ≤ room
+      → let s = nightOf asked m given room in take (s .logged) (s .lent .log) ≡ rowsBytes (wakesOf asked (startWorld m given))
+  night-rows a room l =
+      let s = nightOf asked m given room in
+      let k = ranOf asked m given .world .state .entries .0 in
+      ap (λ (j : ℕ). take j (s .lent .log)) (night-sums room l .logged ∙ ap (λ (b : Bool). cond b (8 * k) 0) a)
+      ∙ ap (λ (x : Lent). take (8 * k) (x .log)) (night-one-run asked m given long ranges sound room l .lent)
+      ∙ log-filled asked m given a

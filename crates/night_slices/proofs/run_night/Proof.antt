@@ -1,5 +1,5 @@
 -- `night_slices::run_night` meets its contract: the slices, one after another. Assumes nothing.
-use Prim.Native.Nat.{ℕ, _≤_, _<_}
+use Prim.Native.Nat.{_≤_, _<_}
 use native.Mathlib.Omega.{arith}
 use mathlib.Core.Bool.{Bool}
 use mathlib.Core.Path.{_≡_, refl, sym, ap, subst, _∙_}
@@ -55,36 +55,49 @@ goes-on-requires : tie.Need-goes-on-requires Inv-loop μ-loop
 goes-on-requires c κs = search needs
 
 same-length : tie.Need-same-length Inv-loop μ-loop
-same-length c = c .before .before .before .before .before .before .before .before .before .before .before .before .slice .kept .0 ∙ c .before .before .before .before .before .before .before .before .before .before .before .before .before .before .before .before .before .before .loop .inv .1
+same-length c =
+    let s = c .before .before .before .before .before .before .before .before .before .before .before .before in
+    s .slice .kept .0 ∙ s .before .before .before .before .before .before .loop .inv .1
 
 same-length-2 : tie.Need-same-length-2 Inv-loop μ-loop
-same-length-2 c = c .before .before .before .before .before .before .before .before .before .before .before .before .slice .kept .1 .0 ∙ c .before .before .before .before .before .before .before .before .before .before .before .before .before .before .before .before .before .before .loop .inv .2
+same-length-2 c =
+    let s = c .before .before .before .before .before .before .before .before .before .before .before .before in
+    s .slice .kept .1 .0 ∙ s .before .before .before .before .before .before .loop .inv .2
 
 same-length-3 : tie.Need-same-length-3 Inv-loop μ-loop
-same-length-3 c = c .before .before .before .before .before .before .before .before .before .before .before .before .slice .kept .1 .1 .0 ∙ c .before .before .before .before .before .before .before .before .before .before .before .before .before .before .before .before .before .before .loop .inv .3
+same-length-3 c =
+    let s = c .before .before .before .before .before .before .before .before .before .before .before .before in
+    s .slice .kept .1 .1 .0 ∙ s .before .before .before .before .before .before .loop .inv .3
 
 same-length-4 : tie.Need-same-length-4 Inv-loop μ-loop
-same-length-4 c = c .before .before .before .before .before .before .before .before .before .before .before .before .slice .kept .1 .1 .1 .0 ∙ c .before .before .before .before .before .before .before .before .before .before .before .before .before .before .before .before .before .before .loop .inv .4
+same-length-4 c =
+    let s = c .before .before .before .before .before .before .before .before .before .before .before .before in
+    s .slice .kept .1 .1 .1 .0 ∙ s .before .before .before .before .before .before .loop .inv .4
 
 same-length-5 : tie.Need-same-length-5 Inv-loop μ-loop
-same-length-5 c = c .before .before .before .before .before .before .before .before .before .before .before .before .slice .kept .1 .1 .1 .1 .0 ∙ c .before .before .before .before .before .before .before .before .before .before .before .before .before .before .before .before .before .before .loop .inv .5
+same-length-5 c =
+    let s = c .before .before .before .before .before .before .before .before .before .before .before .before in
+    s .slice .kept .1 .1 .1 .1 .0 ∙ s .before .before .before .before .before .before .loop .inv .5
 
 -- the night that the slice began with
 abbrev began : tie.After-goes-on Inv-loop μ-loop → Standing
-began c = let l = c .before .before .before .before .before .before .before .before .before .before .before .before .before .before .before .before .before .loop in standing (l .night) (lending (l .image) (l .output) (l .log)) (l .session)
+began c =
+    let l = c .before .before .before .before .before .before .before .before .before .before .before .before .before .before .before .before .before .loop in
+    standing (l .night) (lending (l .image) (l .output) (l .log)) (l .session)
 
 goes : (c : tie.After-goes-on Inv-loop μ-loop) {b : Bool} → c .goes-on .result ≡ b → goesOn (sliceOf (began c)) ≡ b
 goes c e = sym (ap goesOn (c .before .before .before .before .before .before .before .before .before .before .before .slice .ensures .0)) ∙ sym (c .goes-on .ensures) ∙ e
 
 returns-2 : tie.Need-returns-2 Inv-loop μ-loop
 returns-2 c =
-    let a = c .before .before .before .before .before .before .before .before .before .before .before .before .before .before .before .before .before .before .before .before .before .before .before .before .before .before .before .args in
+    let l = c .before .before .before .before .before .before .before .before .before .before .before .before .before .before .before .before .before .before in
+    let a = l .before .before .before .before .before .before .before .before .before .args in
     let given = lending (a .image .now) (a .output .now) (a .log .now) in
     c .before .before .before .before .before .before .before .before .before .before .before .before .slice .ensures .0
     ∙ sym (slices-done (began (c .before)) (goes (c .before) (not-true _ (c .if2 .taken))))
-    ∙ sym (c .before .before .before .before .before .before .before .before .before .before .before .before .before .before .before .before .before .before .loop .inv .0)
-    ∙ ap (λ (n : Night). slicesOf (standing n given (a .session .now))) (c .before .before .before .before .before .before .before .before .before .before .before .before .before .before .before .before .before .before .before .start2 .ensures)
-    ∙ night-runs (a .session .now) (a .size) (a .n) (a .watch) (a .m) given (length (a .spare .now)) (c .before .before .before .before .before .before .before .before .before .before .before .before .before .before .before .before .before .before .before .before .before .least .ensures) (c .before .before .before .before .before .before .before .before .before .before .before .before .before .before .before .before .before .before .before .before .if1 .left)
+    ∙ sym (l .loop .inv .0)
+    ∙ ap (λ (n : Night). slicesOf (standing n given (a .session .now))) (l .before .start2 .ensures)
+    ∙ night-runs (a .session .now) (a .size) (a .n) (a .watch) (a .m) given (length (a .spare .now)) (l .before .before .before .least .ensures) (l .before .before .if1 .left)
 
 loop-less : tie.Need-loop-less Inv-loop μ-loop
 loop-less c =

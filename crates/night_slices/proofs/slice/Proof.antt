@@ -13,30 +13,37 @@ use Rattle.night_slices.proofs.slice.Tie as tie
 
 -- the bytes that are sent by now are within the output, and those of the rows within the log
 sent : (c : tie.After-slice-known10)
-    → let a = c .before .before .before .before .before .before .before .before .before .before .before .before .before .before .before .before .before .before .before .before .before .before .before .before .before .before .before .before .before .args in a .night .sent + c .before .before .before .before .before .before .before .before .before .before .before .before .before .before .before .before .watch-leaping .result .ran .sent .0 ≤ length (a .output .now)
+    → let r = c .before .before .before .before .before .before .before .before .before .before .before .before .before .before .before .before in
+    let a = r .before .before .before .before .before .before .before .before .before .before .before .before .before .args in
+    a .night .sent + r .watch-leaping .result .ran .sent .0 ≤ length (a .output .now)
 sent c =
-    let a = c .before .before .before .before .before .before .before .before .before .before .before .before .before .before .before .before .before .before .before .before .before .before .before .before .before .before .before .before .before .args in
-    let l = c .before .before .before .before .before .before .before .before .before .before .before .before .before .before .before .before .watch-leaping in
+    let r = c .before .before .before .before .before .before .before .before .before .before .before .before .before .before .before .before in
+    let b = r .before .before .before .before .before .before .before .before .before .before .before .before .before in
+    let a = b .args in
+    let l = r .watch-leaping in
     sent-fits (a .night) (l .result) (a .image .now) (a .session .now) (a .output .now) (a .log .now) (l .ensures .0)
-    (c .before .before .before .before .before .before .before .before .before .before .before .before .before .before .before .before .before .before .before .slice-of .ensures)
-    (take-rest (a .night .sent) (a .output .now)) (take-rest (a .night .logged) (a .log .now)) (c .before .before .before .before .before .before .before .before .before .before .before .before .before .before .before .before .before .before .before .before .before .before .before .before .before .before .before .before .before .pre .2)
+    (r .before .before .before .slice-of .ensures) (take-rest (a .night .sent) (a .output .now)) (take-rest (a .night .logged) (a .log .now)) (b .pre .2)
 
 logged : (c : tie.After-slice-known10)
-    → let a = c .before .before .before .before .before .before .before .before .before .before .before .before .before .before .before .before .before .before .before .before .before .before .before .before .before .before .before .before .before .args in
-    a .night .logged + loggedBytes (a .night .watch) (c .before .before .before .before .before .before .before .before .before .before .before .before .before .before .before .before .watch-leaping .result .ran .entries .0) ≤ length (a .log .now)
+    → let r = c .before .before .before .before .before .before .before .before .before .before .before .before .before .before .before .before in
+    let a = r .before .before .before .before .before .before .before .before .before .before .before .before .before .args in
+    a .night .logged + loggedBytes (a .night .watch) (r .watch-leaping .result .ran .entries .0) ≤ length (a .log .now)
 logged c =
-    let a = c .before .before .before .before .before .before .before .before .before .before .before .before .before .before .before .before .before .before .before .before .before .before .before .before .before .before .before .before .before .args in
-    let l = c .before .before .before .before .before .before .before .before .before .before .before .before .before .before .before .before .watch-leaping in
+    let r = c .before .before .before .before .before .before .before .before .before .before .before .before .before .before .before .before in
+    let b = r .before .before .before .before .before .before .before .before .before .before .before .before .before in
+    let a = b .args in
+    let l = r .watch-leaping in
     logged-fits (a .night) (l .result) (a .image .now) (a .session .now) (a .output .now) (a .log .now) (l .ensures .0)
-    (c .before .before .before .before .before .before .before .before .before .before .before .before .before .before .before .before .before .before .before .slice-of .ensures)
-    (take-rest (a .night .sent) (a .output .now)) (take-rest (a .night .logged) (a .log .now)) (c .before .before .before .before .before .before .before .before .before .before .before .before .before .before .before .before .before .before .before .before .before .before .before .before .before .before .before .before .before .pre .3)
+    (r .before .before .before .slice-of .ensures) (take-rest (a .night .sent) (a .output .now)) (take-rest (a .night .logged) (a .log .now)) (b .pre .3)
 
 pub slice-spec : {M : Type 1} → statement M
 slice-spec =
     tie.close
     (tie.spec
     (λ c. search needs)  -- slice-reshare-prefix-watch-leaping
-    (λ c. sym (length-take-le (c .before .before .before .before .before .before .before .before .before .args .night .length) (c .before .before .before .before .before .before .before .before .before .args .session .now) (c .before .before .before .before .before .before .before .before .before .pre .0)))  -- slice-aggregate-watch-leaping
+    (λ c.
+    let b = c .before .before .before .before .before .before .before .before .before in
+    sym (length-take-le (b .args .night .length) (b .args .session .now) (b .pre .0)))  -- slice-aggregate-watch-leaping
     (λ c κs. search needs)  -- slice-of-requires
     (λ c. search needs)  -- sub-watch-leaping
     (λ c. search needs)  -- part-watch-leaping-start
@@ -47,32 +54,39 @@ slice-spec =
     (λ c κs. search needs)  -- watch-leaping-requires
     (λ c κs. search needs)  -- wrapping-add-u64-requires
     (λ c κs. search needs)  -- announce-requires
-    (λ c κs. let p = c .before .before .before .before .before .before .before .before .before .before .before .before .before .before .before .before .before .before .before .before .before .before .before .before .pre in (p .0, p .1))  -- keep-requires
     (λ c κs.
-    let a = c .before .before .before .before .before .before .before .before .before .before .before .before .before .before .before .before .before .before .before .before .before .before .before .before .before .before .before .before .before .args in
-    let l = c .before .before .before .before .before .before .before .before .before .before .before .before .before .before .before .before .watch-leaping .result .ran in (
-      fitting (a .night .sent) (l .sent .0) (sent c) (c .before .before .before .before .before .before .before .before .before .before .before .before .before .before .before .before .before .before .before .before .before .before .before .before .before .before .before .before .before .good .1 .1 .0 .0),
-      fitting (a .night .logged) (loggedBytes (a .night .watch) (l .entries .0)) (logged c) (c .before .before .before .before .before .before .before .before .before .before .before .before .before .before .before .before .before .before .before .before .before .before .before .before .before .before .before .before .before .good .1 .1 .1 .0 .0),
+    let r = c .before .before .before .before .before .before .before .before .before .before .before in
+    let p = r .before .before .before .before .before .before .before .before .before .before .before .before .before .pre in
+    (p .0, p .1))  -- keep-requires
+    (λ c κs.
+    let r = c .before .before .before .before .before .before .before .before .before .before .before .before .before .before .before .before in
+    let b = r .before .before .before .before .before .before .before .before .before .before .before .before .before in
+    let n = b .args .night in
+    let l = r .watch-leaping .result .ran in (
+      fitting (n .sent) (l .sent .0) (sent c) (b .good .1 .1 .0 .0),
+      fitting (n .logged) (loggedBytes (n .watch) (l .entries .0)) (logged c) (b .good .1 .1 .1 .0 .0),
     ))  -- after-requires
     (λ c. c .before .before .before .before .before .before .before .before .before .before .before .before .before .before .before .before .before .watch-leaping .kept .0)  -- same-length
     (λ c. search needs)  -- same-length-2
     (λ c.
-    let a = c .before .before .before .before .before .before .before .before .before .before .before .before .before .before .before .before .before .before .before .before .before .before .before .before .before .before .before .before .before .before .args in
+    let r = c .before .before .before .before .before .before .before .before .before .before .before .before .before .before .before .before .before in
+    let a = r .before .before .before .before .before .before .before .before .before .before .before .before .before .args in
     let k = a .night .sent in
-    let l = c .before .before .before .before .before .before .before .before .before .before .before .before .before .before .before .before .before .watch-leaping in
+    let l = r .watch-leaping in
     same-len-mid {X = ℕ} k (length (a .output .now) - k) (a .output .now) (l .last .1 .1 .1 .1 .1 .0) (l .kept .1 .1 .1 .1 .1 .0))  -- same-length-3
     (λ c.
-    let a = c .before .before .before .before .before .before .before .before .before .before .before .before .before .before .before .before .before .before .before .before .before .before .before .before .before .before .before .before .before .before .args in
+    let r = c .before .before .before .before .before .before .before .before .before .before .before .before .before .before .before .before .before in
+    let a = r .before .before .before .before .before .before .before .before .before .before .before .before .before .args in
     let k = a .night .logged in
-    let l = c .before .before .before .before .before .before .before .before .before .before .before .before .before .before .before .before .before .watch-leaping in
+    let l = r .watch-leaping in
     same-len-mid {X = ℕ} k (length (a .log .now) - k) (a .log .now) (l .last .1 .1 .1 .1 .1 .1 .0) (l .kept .1 .1 .1 .1 .1 .1 .0))  -- same-length-4
     (λ c. search needs)  -- same-length-5
     (λ c.
-    let a = c .before .before .before .before .before .before .before .before .before .before .before .before .before .before .before .before .before .before .before .before .before .before .before .before .before .before .before .before .before .before .args in
-    let l = c .before .before .before .before .before .before .before .before .before .before .before .before .before .before .before .before .before .watch-leaping in
+    let r = c .before .before .before .before .before .before .before .before .before .before .before .before .before .before .before .before .before in
+    let a = r .before .before .before .before .before .before .before .before .before .before .before .before .before .args in
+    let l = r .watch-leaping in
     let k = c .before .before .before .before .before .keep in (
-      sliced (a .night) (l .result) (a .image .now) (a .session .now) (a .output .now) (a .log .now) (l .ensures .0)
-          (c .before .before .before .before .before .before .before .before .before .before .before .before .before .before .before .before .before .before .before .before .slice-of .ensures)
+      sliced (a .night) (l .result) (a .image .now) (a .session .now) (a .output .now) (a .log .now) (l .ensures .0) (r .before .before .before .slice-of .ensures)
           (take-rest (a .night .sent) (a .output .now)) (take-rest (a .night .logged) (a .log .now)) (l .ensures .1)
           (k .result) (k .last .0) (k .ensures .0) (c .after .ensures)
           (put-end (a .night .sent) (a .output .now) (l .last .1 .1 .1 .1 .1 .0))
