@@ -2,13 +2,18 @@
 # Faults at every system call of a first night, of a night with a log and of a recovery; clean-ups that are killed; two nights at once; a call that is
 # held while another night with other names commits. docs/NIGHT.md says what must hold.
 #   bash tools/night_faults.sh        some minutes; prints how many faults and how many bad, and each bad one; status 1 where one is bad
-# Needs strace, python3, x86-64, and `rt check night` done. It works in a fresh folder under TMPDIR.
+# Needs strace, python3, and `rt check night` done. It works in a fresh folder under TMPDIR. Where the kit's emulator runs the program, which is not on
+# x86-64, only calls of the program's own kinds are killed and failed: the emulator makes many of its own.
 set -u
 root=$(cd "$(dirname "$0")/.." && pwd)
 mapfile -t words < <(sh "$root/tools/launch.sh" --words)
 [ -x "$root/target/bin/night" ] && command -v strace >/dev/null || { echo "needs strace, and rt check night" >&2; exit 2; }
 room=$(mktemp -d) && trap 'rm -rf "$room"' EXIT
 cd "$room" && mkdir sets d || exit 2
+case $(uname -m) in                                                  # the call that renames, those that remove with how many a clean-up has, and all
+x86_64) rename=rename removals='unlink:6 rmdir:1' kinds='.*' ;;
+*) rename=renameat removals=unlinkat:7 kinds='\(mkdir\|open\|rename\|unlink\)at\|read\|write\|fsync\|close' ;;
+esac
 files="image state state.rest output state.names log"
 exec 2>/dev/null  # the shell tells of each one that is killed
 
@@ -65,10 +70,10 @@ faults() {
     back "$from"; cd d || exit 2
     faulty
     said 'night stop' || { echo "no night from $from: $(cat ../out)"; exit 2; }
-    sed -n 's/^\([a-z_0-9]*\)(.*/\1/p' ../log | grep -v 'execve\|exit_group' | sort | uniq -c >../calls
+    sed -n 's/^\([a-z_0-9]*\)(.*/\1/p' ../log | grep -v 'execve\|exit_group' | grep -x "$kinds" | sort | uniq -c >../calls
     while read -r count syscall; do
         for what in signal=KILL error=EIO error=ENOSPC error=EACCES error=EINTR; do
-            case $what,$syscall in signal=*|*,rename|*,unlink|*,rmdir) cleaned= ;; *) cleaned=yes ;; esac
+            case $what,$syscall in signal=*|*,rename*|*,unlink*|*,rmdir) cleaned= ;; *) cleaned=yes ;; esac
             for k in $(seq 1 "$count"); do
                 cd ..; back "$from"; cd d || exit 2
                 faulty -e "trace=$syscall" -e "inject=$syscall:$what:when=$k"
@@ -84,12 +89,11 @@ faults() {
 cleanups() {
     local k j syscall
     for k in 1 2 3 4 5 6; do
-        for syscall in unlink rmdir; do
-            for j in 1 2 3 4 5 6; do
-                [ $syscall = unlink ] || [ "$j" = 1 ] || continue
+        for syscall in $removals; do
+            for j in $(seq 1 "${syscall#*:}"); do
                 back one; cd d || exit 2
-                faulty -e trace=fsync,$syscall -e "inject=fsync:error=ENOSPC:when=$((k + 1))" -e "inject=$syscall:signal=KILL:when=$j"
-                judge one one "clean-up after file $k, $syscall $j"
+                faulty -e "trace=fsync,${syscall%:*}" -e "inject=fsync:error=ENOSPC:when=$((k + 1))" -e "inject=${syscall%:*}:signal=KILL:when=$j"
+                judge one one "clean-up after file $k, ${syscall%:*} $j"
                 cd ..
             done
         done
@@ -102,7 +106,7 @@ call=(image evening 9000 61440 state output)
 call=(--log log image state.rest 14000 61440 state output)
 (cd d && night "${call[@]}" >/dev/null); keep two
 (cd d && night "${call[@]}" >/dev/null); keep three
-back one; (cd d && faulty -e trace=rename -e inject=rename:signal=KILL:when=3); keep half
+back one; (cd d && faulty -e trace=$rename -e inject=$rename:signal=KILL:when=3); keep half
 [ -e d/state.done ] || { echo "no STATE.done to recover from"; exit 2; }
 for f in image state state.rest output; do
     if cmp -s sets/one/$f sets/two/$f || cmp -s sets/two/$f sets/three/$f; then echo "two nights leave the same $f: nothing would show"; exit 2; fi
@@ -133,9 +137,9 @@ echo "two at once 100 bad $worse (the second refused $refused, followed $followe
 # is held after its commit (its seventh rename). Each night's files must come to its own places.
 back half; cd d || exit 2
 cp ../sets/two/image image2
-faulty -e trace=rename -e inject=rename:delay_enter=2000000:when=1 & a=$!
+faulty -e trace=$rename -e inject=$rename:delay_enter=2000000:when=1 & a=$!
 sleep 0.5
-strace -o ../held -e trace=rename -e inject=rename:delay_exit=3000000:when=7 \
+strace -o ../held -e trace=$rename -e inject=$rename:delay_exit=3000000:when=7 \
     "${words[@]}" "$root/target/bin/night" --log log2 image2 state.rest 14000 61440 state output2 >../second
 wait $a
 mixed=0

@@ -26,8 +26,8 @@ afterPut n i = choice (ltb (i + 1) n) (Put (i + 1)) SyncPlaces
 abbrev pub afterUnlink : ℕ → ℕ → Op
 afterUnlink n i = choice (ltb (i + 1) n) (Unlink (i + 1)) RemoveNight
 
--- n: the files of the night; ok: the operation went well; own: this call has begun its own night. Before the commit a failure leads to the clean-up, from it on to a stop: a
--- rename that reports failure may have been done
+-- n: the files of the night; ok: the operation went well; own: this call has begun its own night. Before the commit a failure leads to the clean-up,
+-- from it on to a stop: a rename that reports failure may have been done
 abbrev pub nextOp : ℕ → Op → Bool → Bool → Op
 nextOp n Find ok own = choice ok Take ReadNames
 nextOp n ReadNames ok own = choice ok SyncCommit (Stopped 33)
