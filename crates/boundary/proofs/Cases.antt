@@ -4,7 +4,7 @@ use native.Mathlib.Omega.{arith}
 use mathlib.Core.List.{List}
 use mathlib.Core.Logic.{⊎-elim}
 use mathlib.Core.Path.{_≡_, refl, sym, ap, subst, _∙_}
-use mathlib.Core.Bool.{Bool, true, false, not, cond, _&&_}
+use mathlib.Core.Bool.{Bool, true, false, not, cond, _&&_, true≢false, false≢true}
 use lib.ListN.{length}
 use borrow.Author.Tests.{le-leb, lt-leb, not-false}
 use Rattle.turns.specs.Turn.{Turn, more, done}
@@ -25,15 +25,17 @@ use Rattle.machine.specs.Steps.{Stepped, moved, enteredOf, lookOf, stepOf}
 use Rattle.machine.proofs.Steps.{step-cycles, entered-cycles}
 use Rattle.wake_log.specs.declared.Row.{Row}
 use Rattle.wake_log.specs.Log.{fitsRow, withRow}
-use Rattle.boundary.specs.World.{Lent, memoriesIn, withMemories, Terms, World, worldOf, endedOf, grown, grownTo}
+use Rattle.boundary.specs.World.{Lent, lending, memoriesIn, withMemories, Terms, World, worldOf, endedOf, grown, grownTo}
 use Rattle.boundary.specs.Boundary.{recordTaken, recordsOf, fedWorld, sendsOf, sentState, sentWorld, rowOf, lacksRow, loggedOf, loggedWorld, enteredWorld}
 use Rattle.boundary.specs.Boundary.{waitedState, waitedWorld}
 use Rattle.boundary.specs.Boundary.{steppedWorld, executedOf, onPending, actOf, sendOf, boundaryOf}
-use Rattle.boundary.specs.Counts.{Fine, Ready, Fits}
+use Rattle.boundary.specs.Counts.{Fine, Ready, Fits, Refuses, Accepts}
 use Rattle.boundary.specs.declared.State.{State}
 use Rattle.boundary.specs.declared.Stop.the-variants as stops
 use Rattle.boundary.specs.declared.Watch.{Watch}
 use Rattle.laws.proofs.Conds.{picks, passes}
+use Rattle.laws.proofs.Bools.{and-false}
+use Rattle.laws.proofs.Apart.{apart}
 use Rattle.boundary.proofs.Feeding.{records-keep}
 
 -- an entry and an instruction take at most 12 cycles, so that there is room for them in the counts
@@ -139,6 +141,29 @@ module _ (s : State) (l : Lent) where
     pub below-limit : s .cycles .0 < t .limit → boundaryOf t (worldOf s l) ≡ sendOf (t .watch) (fedWorld (t .session) (worldOf s l))
     unfolding boundaryOf
     below-limit h = passes _ _ (lt-leb _ _ h)
+
+-- whether the row of an interrupt that is to be accepted lacks, as the code asks it
+module _ (logs : Bool) (s : State) (log : List ℕ) where
+  abbrev Lacks : Bool → Type 0
+  Lacks r = (r ≡ true → Refuses logs s log) × (r ≡ false → Accepts logs s log)
+
+  pub lacks-unasked : logs ≡ false → Lacks false
+  lacks-unasked a = ((λ e. absurd (false≢true e)), λ _ cause e. ap (λ (b : Bool). b && not (fitsRow log (s .entries .0))) a)
+
+  pub lacks-fitting : fitsRow log (s .entries .0) ≡ true → Lacks false
+  lacks-fitting f = ((λ e. absurd (false≢true e)), λ _ cause e. ap (λ (b : Bool). logs && not b) f ∙ and-false logs)
+
+  pub lacks-nothing : pendingOf (s .machine) ≡ Nothing → Lacks false
+  lacks-nothing n = ((λ e. absurd (false≢true e)), λ _ cause e. let z : _≡_ {A = Pending} Nothing (Due cause) = sym n ∙ e in apart cc)
+
+  pub lacks-due : {cause : Cause} → logs ≡ true → fitsRow log (s .entries .0) ≡ false → pendingOf (s .machine) ≡ Due cause → Lacks true
+  lacks-due {cause} a f d = (
+    (λ _ since i o.
+        let l = lending i o log in
+        let watch : Watch = record { log = logs; since = since } in
+        act-accepts s l watch d ∙ accept-stops s l watch cause (ap (λ (b : Bool). b && not (fitsRow log (s .entries .0))) a ∙ ap not f)),
+    (λ e. absurd (true≢false e)),
+  )
 
 -- step 5, by k leaps more
 pub wait-law : (s : State) {r : State} {m : Machine} (k : ℕ) → cond (s .inside) 0 1 ≡ k

@@ -12,14 +12,14 @@ use machine::Pending;
 use std::num::wrapping_add_u32;
 use wake_log::Row;
 ghost use mathlib.Core.Path.{_≡_};
-ghost use mathlib.Core.Bool.{false};
+ghost use mathlib.Core.Bool.{true, false};
 ghost use mathlib.Core.List.{List};
 ghost use Prim.Native.Nat.{ℕ, _+_, _<_, _≤_, _^_};
 ghost use lib.ListN.{length};
 ghost use Rattle.boundary.specs.World.{Lent, lending, withMemories, watching, unwatched, later, loggedBytes, worldOf, grownTo};
 ghost use Rattle.boundary.specs.Boundary.{recordTaken, recordsOf, sentState, waitedState, rowOf, lacksRow, loggedOf, enteredWorld};
 ghost use Rattle.boundary.specs.Boundary.{executedOf, onPending, actOf, sendOf, boundaryOf, turned};
-ghost use Rattle.boundary.specs.Counts.{Fine, Ready, Fits};
+ghost use Rattle.boundary.specs.Counts.{Fine, Ready, Fits, Refuses, Accepts};
 ghost use Rattle.machine.specs.declared.Pending.the-variants.{Due};
 ghost use Rattle.machine.specs.Steps.{lookOf};
 ghost use Rattle.bus.specs.Access.{memories};
@@ -192,11 +192,21 @@ impl State {
         }
     }
 
-    // Whether the log has no room for a row that is asked for.
-    fn lacks_row(self, watch: Watch, log: &[u8]) -> bool
-        ensures { λ r. ⌜ r ≡ lacksRow watch self (now (log .entry)) ⌝ }
+    // Whether an interrupt is to be accepted whose row is asked for and has no room.
+    fn lacks_row(self, logs: bool, log: &[u8]) -> bool
+        ensures { λ r. ⌜ (r ≡ true → Refuses logs self (now (log .entry))) × (r ≡ false → Accepts logs self (now (log .entry))) ⌝ }
     {
-        watch.log & !wake_log::fits_row(log, self.entries.0)
+        if !logs {
+            return false;
+        }
+        if wake_log::fits_row(log, self.entries.0) {
+            return false;
+        }
+        let p = self.machine.pending();
+        match p {
+            Pending::Due(cause) => true,
+            Pending::Nothing => false,
+        }
     }
 
     // An entry is logged, where that is asked for.
@@ -209,18 +219,12 @@ impl State {
         }
     }
 
-    // Step 4.
+    // Step 4, where there is room.
     fn accept(self, watch: Watch, cause: Cause, image: &mut [u8], log: &mut [u8]) -> Turned
-        requires { ⌜ Ready self ⌝ }
+        requires { ⌜ Ready self × (lacksRow watch self (now log) ≡ false) ⌝ }
         ensures { λ r. ⌜ ((o : List ℕ) → turned r (lending (now (image .exit)) o (now (log .exit)))
             ≡ onPending watch (Due cause) (worldOf self (lending (now (image .entry)) o (now (log .entry))))) ⌝ }
     {
-        if self.lacks_row(watch, &log[..]) {
-            return Turned {
-                state: self,
-                progress: Progress::Stopped(Stop::LogFull),
-            };
-        }
         self.log_entry(watch, cause, log);
         Turned {
             state: self.enter(cause, image),
@@ -273,15 +277,22 @@ impl State {
         }
     }
 
-    // Steps 4 to 6.
-    fn act(self, watch: Watch, image: &mut [u8], log: &mut [u8]) -> Turned
-        requires { ⌜ Ready self ⌝ }
+    // Steps 4 to 6, where there is room. What is watched comes in its parts, and the room is tested before: both keep every other boundary as cheap as
+    // without a log.
+    fn act(self, logs: bool, since: Cycles, image: &mut [u8], log: &mut [u8]) -> Turned
+        requires { ⌜ Ready self × Accepts logs self (now log) ⌝ }
         ensures { λ r. ⌜ ((o : List ℕ) → turned r (lending (now (image .exit)) o (now (log .exit)))
-            ≡ actOf watch (worldOf self (lending (now (image .entry)) o (now (log .entry))))) ⌝ }
+            ≡ actOf (record { log = logs; since = since }) (worldOf self (lending (now (image .entry)) o (now (log .entry))))) ⌝ }
     {
         let p = self.machine.pending();
         match p {
-            Pending::Due(cause) => self.accept(watch, cause, image, log),
+            Pending::Due(cause) => {
+                let watch = Watch {
+                    log: logs,
+                    since: since,
+                };
+                self.accept(watch, cause, image, log)
+            }
             Pending::Nothing => {
                 if self.machine.chip.registers.idles() {
                     return Turned {
@@ -295,10 +306,18 @@ impl State {
     }
 
     // Steps 3 to 6.
-    fn send(self, watch: Watch, image: &mut [u8], output: &mut [u8], log: &mut [u8]) -> Turned
+    fn send(
+        self,
+        logs: bool,
+        since: Cycles,
+        image: &mut [u8],
+        output: &mut [u8],
+        log: &mut [u8],
+    ) -> Turned
         requires { ⌜ Ready self ⌝ }
         ensures { λ r. ⌜ turned r (lending (now (image .exit)) (now (output .exit)) (now (log .exit)))
-            ≡ sendOf watch (worldOf self (lending (now (image .entry)) (now (output .entry)) (now (log .entry)))) ⌝ }
+            ≡ sendOf (record { log = logs; since = since })
+            (worldOf self (lending (now (image .entry)) (now (output .entry)) (now (log .entry)))) ⌝ }
     {
         if self.machine.chip.bus.serial.wants_to_send() {
             let at = self.sent.0;
@@ -309,9 +328,23 @@ impl State {
                 };
             }
             output[at] = self.machine.chip.bus.serial.transmit;
-            return self.after_sending().act(watch, image, log);
+            let sent = self.after_sending();
+            if sent.lacks_row(logs, &log[..]) {
+                return Turned {
+                    state: sent,
+                    progress: Progress::Stopped(Stop::LogFull),
+                };
+            }
+            return sent.act(logs, since, image, log);
         }
-        self.act(watch, image, log)
+        let rested = self;
+        if rested.lacks_row(logs, &log[..]) {
+            return Turned {
+                state: rested,
+                progress: Progress::Stopped(Stop::LogFull),
+            };
+        }
+        rested.act(logs, since, image, log)
     }
 
     // One boundary.
@@ -335,7 +368,8 @@ impl State {
                 progress: Progress::Stopped(Stop::Limit),
             };
         }
+        let since = watch.since;
         self.apply_records(session, image)
-            .send(watch, image, output, log)
+            .send(watch.log, since, image, output, log)
     }
 }
