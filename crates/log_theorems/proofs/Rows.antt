@@ -43,9 +43,10 @@ pathFrom t w = pathOf (boundaryOf t) (cyclesLeft t) w
 -- row. The row's cycle is the count there, after what had passed before the run; it goes round only where 4 bytes do not hold the limit so counted.
 pub record Entered (t : Terms) (w : World) (k : ℕ) (row : Row) : Type 0 where
   pub at : World
+  pub next : World
+  pub goes : boundaryOf t at ≡ more next
   pub before : List World
-  pub after : List World
-  pub path : pathFrom t w ≡ before ++ at ∷ after
+  pub path : pathFrom t w ≡ before ++ at ∷ pathFrom t next
   pub entries : at .state .entries .0 ≡ k
   pub below : at .state .cycles .0 < t .limit
   pub tells : Tells (t .watch) (readyState (t .session) at) row
@@ -89,8 +90,9 @@ module _ (t : Terms) (w : World) where
       tells .cycle ∙ ap (λ (j : ℕ). (t .watch .since .0 + j) % 2 ^ 32) (ready-cycles (t .session) v) in
       record {
         at = v;
+        next = u;
+        goes = e;
         before = before;
-        after = pathFrom t u;
         path = p ∙ ap (λ (x : List World). before ++ x) (path-goes t v u e);
         entries = n;
         below = l;
