@@ -5,7 +5,7 @@ use native.Mathlib.Omega.{arith}
 use mathlib.Core.Path.{_≡_, refl, ap, _∙_}
 use mathlib.Core.Bool.{Bool, true, false, not, _&&_}
 use mathlib.Core.List.{List}
-use Rattle.laws.proofs.Conds.{passes}
+use Rattle.laws.proofs.Conds.{passes, cases}
 use Rattle.serial.specs.Serial.{wantsToSend, sentOf}
 use Rattle.machine.specs.declared.Cause.{Cause}
 use Rattle.machine.specs.declared.Pending.the-variants.{Due}
@@ -22,6 +22,13 @@ pub record Ready (session : List ℕ) (limit : ℕ) (s : State) : Type 0 where
   pub below : s .cycles .0 < limit
   pub rested : due session s ≡ false
   pub silent : sendsOf s ≡ false
+
+-- steps 2 and 3 keep the count
+pub ready-cycles : (session : List ℕ) (w : World) → readyState session w .cycles .0 ≡ w .state .cycles .0
+unfolding sentState
+ready-cycles session w =
+    let c = records-cycles session (memoriesIn (w .lent)) (w .state) in
+    cases (λ (s : State). s .cycles .0 ≡ w .state .cycles .0) (sendsOf (fedWorld session w .state)) (λ _. c) (λ _. c)
 
 -- a byte that was sent is not to be sent again: TDRE is set
 pub sent-silent : (s : State) → sendsOf (sentState s) ≡ false

@@ -1,5 +1,5 @@
--- Each row of a log is the row of a boundary that the run passes, and is read back from the log at the end. Assumes nothing.
-use Prim.Native.Nat.{ℕ, zero, suc, _+_, _*_, _≤_, _<_}
+-- Each row of a log is the row of a boundary on the run's path, and is read back from the log at the end. Assumes nothing.
+use Prim.Native.Nat.{ℕ, zero, suc, _+_, _*_, _%_, _^_, _≤_, _<_}
 use native.Mathlib.Omega.{arith}
 use mathlib.Core.Path.{_≡_, refl, sym, ap, subst, _∙_}
 use mathlib.Core.Bool.{Bool, true, false}
@@ -9,8 +9,9 @@ use lib.ListN.{length, drop, length-append}
 use lib.Seq.{take-at, drop-at, drop-append-seam}
 use borrow.Author.Tests.{le-leb, leb-true, leb-false}
 use Rattle.turns.specs.Turn.{Turn, more, done, Then}
+use Rattle.turns.specs.Recorded.{pathOf}
 use Rattle.turns.proofs.Laws as turns
-use Rattle.turns.proofs.Recorded.{rows-keep}
+use Rattle.turns.proofs.Recorded.{path-more, rows-keep}
 use Rattle.laws.proofs.Conds.{picks}
 use Rattle.machine.specs.declared.Machine.{Machine}
 use Rattle.machine.specs.declared.Pending.{Pending}
@@ -22,24 +23,36 @@ use Rattle.wake_log.proofs.Laws.{row-long, row-back, written}
 use Rattle.boundary.specs.declared.State.{State}
 use Rattle.boundary.specs.declared.Stop.the-variants.{Limit}
 use Rattle.boundary.specs.World.{Lent, Terms, World, Ended, endedOf}
-use Rattle.boundary.specs.Boundary.{boundaryOf, runOf}
+use Rattle.boundary.specs.Boundary.{boundaryOf, cyclesLeft}
 use Rattle.boundary.specs.Start.{startWorld, ranOf}
 use Rattle.boundary.proofs.Cases.{at-limit}
-use Rattle.boundary.proofs.Runs.{run-falls, run-more}
+use Rattle.boundary.proofs.Runs.{run-falls}
 use Rattle.boundary_theorems.specs.Trace.{readyState, ifGoing}
 use Rattle.log_theorems.specs.Wakes.{rowBy, wakeOf, wakesAt, wakesOf, rowsBytes}
 use Rattle.log_theorems.proofs.Bytes.{rows-long, rows-append}
+use Rattle.log_theorems.proofs.Ready.{ready-cycles}
 use Rattle.log_theorems.proofs.Boundaries.{Written, start-written, turn-written}
 use Rattle.log_theorems.proofs.Wakes.{Tells, row-tells}
 use Rattle.log_theorems.proofs.Log.{rows-entries, log-left}
 
--- row k of the run from w: it passes a world with k entries before, and from there a boundary below the limit that takes the entry of this row
+-- the worlds from which a run takes its boundaries, in their order
+abbrev pub pathFrom : Terms → World → List World
+pathFrom t w = pathOf (boundaryOf t) (cyclesLeft t) w
+
+-- row k of the run from w: on its path stands a world with k entries before, and from there a boundary below the limit takes the entry of this
+-- row. The row's cycle is the count there, after what had passed before the run; it goes round only where 4 bytes do not hold the limit so counted.
 pub record Entered (t : Terms) (w : World) (k : ℕ) (row : Row) : Type 0 where
   pub at : World
-  pub passes : runOf t w ≡ runOf t at
+  pub next : World
+  pub goes : boundaryOf t at ≡ more next
+  pub before : List World
+  pub path : pathFrom t w ≡ before ++ at ∷ pathFrom t next
   pub entries : at .state .entries .0 ≡ k
   pub below : at .state .cycles .0 < t .limit
   pub tells : Tells (t .watch) (readyState (t .session) at) row
+  pub cycle : row .cycle ≡ (t .watch .since .0 + at .state .cycles .0) % 2 ^ 32
+  pub unwrapped : t .watch .since .0 + t .limit ≤ 2 ^ 32
+      → (row .cycle ≡ t .watch .since .0 + at .state .cycles .0) × (row .cycle < t .watch .since .0 + t .limit)
 
 -- .. for each of some rows, from number k on
 abbrev pub Each : Terms → World → ℕ → List Row → Type 0
@@ -51,6 +64,10 @@ each-last t w k [] row h e = (subst (λ (n : ℕ). Entered t w n row) (let z : k
 each-last t w k (x ∷ rows) row h e =
     (h .0, each-last t w (suc k) rows row (h .1) (subst (λ (n : ℕ). Entered t w n row) (let z : k + suc (length rows) ≡ suc k + length rows = omega arith in z) e))
 
+-- a boundary that goes on
+path-goes : (t : Terms) (v u : World) → boundaryOf t v ≡ more u → pathFrom t v ≡ v ∷ pathFrom t u
+path-goes t v u e = path-more (boundaryOf t) (λ (x : World). endedOf Limit x) (cyclesLeft t) (run-falls t) e
+
 goes-below : (t : Terms) (v u : World) → boundaryOf t v ≡ more u → v .state .cycles .0 < t .limit
 goes-below t v u e = by (leb (t .limit) (v .state .cycles .0)) refl
   where
@@ -58,9 +75,35 @@ goes-below t v u e = by (leb (t .limit) (v .state .cycles .0)) refl
     by true f = absurd (turns.apart _ _ (sym e ∙ at-limit (v .state) (v .lent) t (leb-true _ _ f)))
     by false f = leb-false _ _ f
 
+-- a count below the limit does not go round
+stays : (since count limit row : ℕ) → row ≡ (since + count) % 2 ^ 32 → count < limit → since + limit ≤ 2 ^ 32
+    → (row ≡ since + count) × (row < since + limit)
+stays since count limit row e l f = (omega (arith, e, l, f), omega (arith, e, l, f))
+
 module _ (t : Terms) (w : World) where
+  -- the boundary from a world of the path that takes an entry
+  entered-at : (before : List World) (v u : World) → pathFrom t w ≡ before ++ pathFrom t v → boundaryOf t v ≡ more u
+      → (k : ℕ) → v .state .entries .0 ≡ k → (row : Row) → Tells (t .watch) (readyState (t .session) v) row → Entered t w k row
+  entered-at before v u p e k n row tells =
+      let l = goes-below t v u e in
+      let c : row .cycle ≡ (t .watch .since .0 + v .state .cycles .0) % 2 ^ 32 =
+      tells .cycle ∙ ap (λ (j : ℕ). (t .watch .since .0 + j) % 2 ^ 32) (ready-cycles (t .session) v) in
+      record {
+        at = v;
+        next = u;
+        goes = e;
+        before = before;
+        path = p ∙ ap (λ (x : List World). before ++ x) (path-goes t v u e);
+        entries = n;
+        below = l;
+        tells = tells;
+        cycle = c;
+        unwrapped = stays (t .watch .since .0) (v .state .cycles .0) (t .limit) (row .cycle) c l;
+      }
+
   record So (rows : List Row) (v : World) : Type 0 where
-    here : runOf t w ≡ runOf t v
+    before : List World
+    path : pathFrom t w ≡ before ++ pathFrom t v
     rowsHere : Written (t .watch .log) (w .state .entries .0) (w .lent .log) rows v
     each : Each t w (w .state .entries .0) rows
 
@@ -75,14 +118,17 @@ module _ (t : Terms) (w : World) where
       told : (u : World) → boundaryOf t v ≡ more u → (p : Pending) → pendingOf (s .machine) ≡ p → Each t w (w .state .entries .0) (rows ++ rowBy (t .watch) p s)
       told u e (Due cause) f =
           each-last t w (w .state .entries .0) rows _ (h .each)
-          (record { at = v; passes = h .here; entries = h .rowsHere .entries; below = goes-below t v u e; tells = row-tells (t .watch) s cause f })
+          (entered-at (h .before) v u (h .path) e _ (h .rowsHere .entries) _ (row-tells (t .watch) s cause f))
       told u e Nothing f = subst (Each t w (w .state .entries .0)) (sym (append-nil rows)) (h .each)
 
       by : (x : Turn World Ended) → boundaryOf t v ≡ x
           → let all = rows ++ ifGoing x (wakeOf (t .watch) s) in Then (So all) (λ e. Each t w (w .state .entries .0) all) x
       by (more u) e =
           record {
-            here = h .here ∙ run-more t v e;
+            before = h .before ++ v ∷ [];
+            path = h .path
+                ∙ ap (λ (x : List World). h .before ++ x) (path-goes t v u e)
+                ∙ sym (append-assoc (h .before) (v ∷ []) (pathFrom t u));
             rowsHere = turn-written t (w .state .entries .0) (w .lent .log) rows v u (h .rowsHere) e;
             each = told u e (pendingOf (s .machine)) refl;
           }
@@ -92,7 +138,7 @@ module _ (t : Terms) (w : World) where
   unfolding wakesOf
   wakes-tell room =
       rows-keep (boundaryOf t) (λ (x : World). endedOf Limit x) _ (run-falls t) (wakesAt t) So (λ l e. Each t w (w .state .entries .0) l) turn-each [] w
-      (record { here = refl; rowsHere = start-written (t .watch .log) w room; each = tt })
+      (record { before = []; path = refl; rowsHere = start-written (t .watch .log) w room; each = tt })
 
 -- a row among others is read back
 module _ (before : List Row) (row : Row) (rest : List ℕ) where

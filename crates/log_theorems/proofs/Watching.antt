@@ -1,15 +1,15 @@
--- Watching only adds its own stop: a run with the log is the run without it until a row lacks room, and 11 leaves the boundary before the entry,
--- from which a run goes on as if uncut. Assumes nothing.
+-- Watching only adds its own stop: a run with the log is the run without it until a row lacks room, and 11 leaves the boundary before the entry.
+-- Assumes nothing.
 use Prim.Native.Nat.{ℕ, _+_, _*_, _/_, _≤_, _<_}
 use native.Mathlib.Omega.{arith}
 use mathlib.Core.Path.{_≡_, refl, sym, ap, _∙_}
-use mathlib.Core.Bool.{Bool, true, false, not, false≢true}
+use mathlib.Core.Bool.{Bool, true, false, false≢true}
 use mathlib.Core.Logic.{_↔_, _⊎_, inl, inr, ⊎-elim}
 use mathlib.Core.List.{List, [], _++_, append-nil}
 use lib.ListN.{length, take}
 use lib.Seq.{take-all, take-at}
-use borrow.Author.Tests.{le-leb, leb-false, not-true}
-use Rattle.turns.specs.Turn.{Turn, more, Then}
+use borrow.Author.Tests.{leb-false, not-true}
+use Rattle.turns.specs.Turn.{Turn, Then}
 use Rattle.laws.proofs.Apart.{apart}
 use Rattle.numbers.specs.Numbers.{over}
 use Rattle.machine.specs.declared.Cause.{Cause}
@@ -20,9 +20,8 @@ use Rattle.wake_log.specs.declared.Row.{Row}
 use Rattle.boundary.specs.declared.Stop.{Stop}
 use Rattle.boundary.specs.declared.Stop.the-variants.{Limit, Undefined, Full, LogFull}
 use Rattle.boundary.specs.World.{Lent, withLog, Terms, World, Ended}
-use Rattle.boundary.specs.Boundary.{lacksRow, loggedWorld, enteredWorld, actOf, boundaryOf, runOf}
+use Rattle.boundary.specs.Boundary.{lacksRow, loggedWorld, enteredWorld, actOf, runOf}
 use Rattle.boundary.specs.Start.{startWorld, ranOf}
-use Rattle.boundary.proofs.Cases.{accept-goes}
 use Rattle.boundary.proofs.Runs.{act-cases, boundary-cases, run-more, run-keeps}
 use Rattle.boundary.proofs.Kept.{counts-grow}
 use Rattle.log_theorems.specs.Wakes.{wakesOf, rowsBytes, logging, relogged, endedWith}
@@ -194,22 +193,3 @@ module _ (t : Terms) (m : Machine) (l : Lent) where
       ∙ sym (ap (λ (k : ℕ). take (8 * k) longer) (sym (rows-entries asked m l))
       ∙ ap (take (8 * length first)) (log-left asked m (withLog l log) ∙ ap (λ (w : List Row). over (rowsBytes w) log) (b .same))
       ∙ first-rows first (b .rest) log)
-
-  -- After 11 a run goes on as if uncut: with another log, in which there is room for the rows so far, the run from the front is the run from there,
-  -- these rows in its log
-  pub goes-on : ranOf (logging true t) m l .stop ≡ LogFull → (log : List ℕ) → 8 * ranOf (logging true t) m l .world .state .entries .0 ≤ length log
-      → ranOf (logging true t) m (withLog l log)
-      ≡ runOf (logging true t) (relogged (over (rowsBytes (wakesOf (logging true t) (startWorld m l))) log) (ranOf (logging true t) m l .world))
-  goes-on e log h = beside true true log (λ _. h) .passed e .0 .0
-
-  -- .. and does step 4 alone there, if there is room for one row more
-  pub enters-then : (e : ranOf (logging true t) m l .stop ≡ LogFull) (log : List ℕ)
-      → 8 * ranOf (logging true t) m l .world .state .entries .0 + 8 ≤ length log
-      → let v = relogged log (ranOf (logging true t) m l .world) in
-      let cause = refused-left e .cause in
-      boundaryOf (logging true t) v ≡ more (enteredWorld cause (loggedWorld (logging true t .watch) cause v))
-  enters-then e log h =
-      let r = refused-left e in
-      let v = relogged log (logged .world) in
-      entry-again (logging true t) v (r .ready) (r .cause) (r .pending)
-      ∙ accept-goes (v .state) (v .lent) (logging true t .watch) (r .cause) (ap not (le-leb _ _ h))

@@ -13,6 +13,8 @@ use Rattle.laws.proofs.Bools.{both}
 use Rattle.laws.proofs.Conds.{passes}
 use Rattle.session.specs.Session.{checkOf}
 use Rattle.session.specs.declared.Checked.the-variants.{Sound}
+use Rattle.wake_log.specs.declared.Row.{Row}
+use Rattle.wake_log.specs.Log.{rowAt}
 use Rattle.replies.specs.Replies.{told}
 use Rattle.machine.specs.declared.Machine.{Machine}
 use Rattle.machine.specs.Machine.{Ranges}
@@ -26,6 +28,7 @@ use Rattle.rest.specs.Rest.{restOf}
 use Rattle.rest.proofs.Again.{rest-of-rest}
 use Rattle.log_theorems.specs.Wakes.{rowsBytes, wakesOf}
 use Rattle.log_theorems.proofs.Log.{log-filled}
+use Rattle.log_theorems.proofs.Rows.{Told, row-told}
 use Rattle.composing.proofs.Rows.{cycle-later}
 use Rattle.composing.proofs.Raised.{apart-most}
 use Rattle.composing.proofs.Second.{used-within}
@@ -152,6 +155,13 @@ pub record SumsAs (s : Standing) (asked : Terms) (e : Ended) : Type 0 where
   pub leaps-least : e .world .state .leaps .0 ≤ s .leaps
   pub leaps-most : s .leaps + 1 ≤ e .world .state .leaps .0 + s .slices
 
+-- Row k of a night's log: that of an entry of the one run, with the count where it stood, which is below N, "so that 4 bytes do".
+pub record RowAs (s : Standing) (asked : Terms) (m : Machine) (given : Lent) (k : ℕ) : Type 0 where
+  pub entry : Told asked m given k
+  pub row : rowAt (s .lent .log) k ≡ entry .row
+  pub cycle : rowAt (s .lent .log) k .cycle ≡ entry .entered .at .state .cycles .0
+  pub below : rowAt (s .lent .log) k .cycle < asked .limit
+
 -- a number below 2^64 does not go round
 as-it-is : {a b : ℕ} → a ≡ b % 2 ^ 64 → b < 2 ^ 64 → a ≡ b
 as-it-is e l = omega arith
@@ -210,3 +220,21 @@ module _ (asked : Terms) (m : Machine) (given : Lent)
       ap (λ (j : ℕ). take j (s .lent .log)) (night-sums room l .logged ∙ ap (λ (b : Bool). cond b (8 * k) 0) a)
       ∙ ap (λ (x : Lent). take (8 * k) (x .log)) (night-one-run asked m given long ranges sound room l .lent)
       ∙ log-filled asked m given a
+
+  -- each of them, where nothing had passed before the night
+  pub night-row : asked .watch .log ≡ true → asked .watch .since .0 ≡ 0 → (room : ℕ) → length (asked .session) ≤ room
+      → (k : ℕ) → k < nightOf asked m given room .entries → RowAs (nightOf asked m given room) asked m given k
+  night-row a z room l k h =
+      let n = night-sums room l .entries in
+      let r = row-told asked m given a k (omega (arith, h, n)) in
+      let same = ap (λ (x : Lent). rowAt (x .log) k) (night-one-run asked m given long ranges sound room l .lent) ∙ r .read in
+      let c = r .entered .unwrapped (omega (arith, z, n-fits)) in
+      let cycle = ap (λ (x : Row). x .cycle) same in
+      let count = c .0 in
+      let least = c .1 in
+      record {
+        entry = r;
+        row = same;
+        cycle = omega (arith, cycle, count, z);
+        below = omega (arith, cycle, least, z);
+      }
