@@ -157,71 +157,33 @@ fn show_logged(
     night
 }
 
-// NMI and IRQ1 at 100, IRQ1 high at 130, NMI at 1,000,000,007 and at 2,000,000,000; N is 1,000,000,100. What is left of N is run with
-// another log.
+// NMI and IRQ1 at 100, IRQ1 high at 130, NMI at 1,000,000,007 and at 2,000,000,000.
+const WAKING: [u8; 42] =
+    *b"\x06\x00\x04\x00\x64\x00\x00\x00\x07\x00\x03\x00\x64\x00\x00\x00\x00\x07\x00\x03\x00\x82\x00\x00\x00\x01\x06\x00\x04\x00\x07\xCA\x9A\x3B\x06\x00\x04\x00\x00\x94\x35\x77";
+
+// A night of 1,000,000,100 cycles. What is left of them is run with another log.
+fn show_both(image: &mut [u8], m: Machine, asked: bool, log: &mut [u8], further: &mut [u8]) {
+    let mut session = WAKING;
+    let night = show_logged(image, m, &mut session, 42, 1000000100, asked, log);
+    if night.left > 0 {
+        let left = night.machine;
+        show_logged(
+            image,
+            left,
+            &mut session,
+            night.length,
+            night.left,
+            asked,
+            further,
+        );
+    }
+}
+
 fn show_waking(asked: bool, log: &mut [u8], further: &mut [u8]) {
     let mut image = waking();
-    let mut session = [
-        6u8,
-        0,
-        4,
-        0,
-        0x64,
-        0,
-        0,
-        0,
-        7,
-        0,
-        3,
-        0,
-        0x64,
-        0,
-        0,
-        0,
-        0,
-        7,
-        0,
-        3,
-        0,
-        0x82,
-        0,
-        0,
-        0,
-        1,
-        6,
-        0,
-        4,
-        0,
-        0x07,
-        0xCA,
-        0x9A,
-        0x3B,
-        6,
-        0,
-        4,
-        0,
-        0x00,
-        0x94,
-        0x35,
-        0x77,
-    ];
     let power = cabinet::power_on(&image, 65536);
     match power {
-        Power::On(m) => {
-            let night = show_logged(&mut image, m, &mut session, 42, 1000000100, asked, log);
-            if night.left > 0 {
-                let left = night.machine;
-                show_logged(
-                    &mut image,
-                    left,
-                    &mut session,
-                    night.length,
-                    night.left,
-                    asked,
-                    further,
-                );
-            }
-        }
+        Power::On(m) => show_both(&mut image, m, asked, log, further),
         Power::WrongImage => Line::empty().text(b"no machine\n").print(),
         Power::WrongStart => Line::empty().text(b"no machine\n").print(),
     }
