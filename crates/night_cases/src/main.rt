@@ -159,7 +159,7 @@ fn show_logged(
 
 // NMI and IRQ1 at 100, IRQ1 high at 130, NMI at 1,000,000,007 and at 2,000,000,000.
 const WAKING: [u8; 42] =
-    *b"\x06\x00\x04\x00\x64\x00\x00\x00\x07\x00\x03\x00\x64\x00\x00\x00\x00\x07\x00\x03\x00\x82\x00\x00\x00\x01\x06\x00\x04\x00\x07\xCA\x9A\x3B\x06\x00\x04\x00\x00\x94\x35\x77";
+    *b"\x06\0\x04\0\x64\0\0\0\x07\0\x03\0\x64\0\0\0\0\x07\0\x03\0\x82\0\0\0\x01\x06\0\x04\0\x07\xCA\x9A\x3B\x06\0\x04\0\0\x94\x35\x77";
 
 // A night of 1,000,000,100 cycles. What is left of them is run with another log.
 fn show_both(image: &mut [u8], m: Machine, asked: bool, log: &mut [u8], further: &mut [u8]) {
