@@ -162,28 +162,26 @@ const WAKING: [u8; 42] =
     *b"\x06\0\x04\0\x64\0\0\0\x07\0\x03\0\x64\0\0\0\0\x07\0\x03\0\x82\0\0\0\x01\x06\0\x04\0\x07\xCA\x9A\x3B\x06\0\x04\0\0\x94\x35\x77";
 
 // A night of 1,000,000,100 cycles. What is left of them is run with another log.
-fn show_both(image: &mut [u8], m: Machine, asked: bool, log: &mut [u8], further: &mut [u8]) {
-    let mut session = WAKING;
-    let night = show_logged(image, m, &mut session, 42, 1000000100, asked, log);
-    if night.left > 0 {
-        let left = night.machine;
-        show_logged(
-            image,
-            left,
-            &mut session,
-            night.length,
-            night.left,
-            asked,
-            further,
-        );
-    }
-}
-
 fn show_waking(asked: bool, log: &mut [u8], further: &mut [u8]) {
     let mut image = waking();
+    let mut session = WAKING;
     let power = cabinet::power_on(&image, 65536);
     match power {
-        Power::On(m) => show_both(&mut image, m, asked, log, further),
+        Power::On(m) => {
+            let night = show_logged(&mut image, m, &mut session, 42, 1000000100, asked, log);
+            if night.left > 0 {
+                let left = night.machine;
+                show_logged(
+                    &mut image,
+                    left,
+                    &mut session,
+                    night.length,
+                    night.left,
+                    asked,
+                    further,
+                );
+            }
+        }
         Power::WrongImage => Line::empty().text(b"no machine\n").print(),
         Power::WrongStart => Line::empty().text(b"no machine\n").print(),
     }
