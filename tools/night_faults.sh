@@ -108,7 +108,7 @@ call=(--log log image state.rest 14000 61440 state output)
 (cd d && night "${call[@]}" >/dev/null); keep three
 back one; (cd d && faulty -e trace=$rename -e inject=$rename:signal=KILL:when=3); keep half
 [ -e d/state.done ] || { echo "no STATE.done to recover from"; exit 2; }
-for f in image state state.rest output; do
+for f in image state state.rest output log; do
     if cmp -s sets/one/$f sets/two/$f || cmp -s sets/two/$f sets/three/$f; then echo "two nights leave the same $f: nothing would show"; exit 2; fi
 done
 

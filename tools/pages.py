@@ -1,6 +1,6 @@
 #!/usr/bin/env python3
 """Holds README.md and docs/ to the tree: the files that they name must exist, and the declarations and edits that stand beside a
-file's or a crate's name, as in `crate`: `name`; and every edit must be named.
+file's or a crate's name, as in `crate`: `name`; and every edit must be named. Each edit's `old:` text must stand once in its file.
 python3 tools/pages.py     prints what is missing, and how much; status 1 where something is."""
 import glob
 import os
@@ -35,9 +35,30 @@ def look(page):
     return text
 
 
+def applies(edit):
+    """The edit's replacements, one after the other as `rt must-fail` makes them."""
+    crate, texts, name, old = os.path.dirname(os.path.dirname(edit)), {}, "", ""
+    for line in open(edit).read().splitlines():
+        word, _, rest = line.partition(": ")
+        if word == "file":
+            name = rest
+            path = f"{crate}/{name}"
+            texts.setdefault(name, open(path).read() if os.path.exists(path) else "")
+        elif word == "old":
+            old = rest
+            times = texts.get(name, "").count(old)
+            if times != 1:
+                missing.append(f"{edit}: its old text is {times} times in {name}: {old.strip()}")
+        elif line.startswith("new:"):
+            texts[name] = texts.get(name, "").replace(old, line[4:].removeprefix(" "), 1)
+    if not old:
+        missing.append(f"{edit}: it replaces nothing")
+
+
 said = "".join(look(page) for page in ["README.md"] + sorted(glob.glob("docs/*.md")))
 for edit in sorted(glob.glob("crates/*/must-fail/*.edit")):
     if "`" + os.path.basename(edit)[:-5] + "`" not in said:
         missing.append(f"no page names {edit}")
+    applies(edit)
 print("\n".join(missing + [f"{len(missing)} missing"]))
 sys.exit(1 if missing else 0)

@@ -37,7 +37,7 @@ fn refuse(number: u8) {
 }
 
 // 1,048,576 zeros, for a session or a log.
-fn session_buffer() -> [u8; 1048576]
+fn zeros() -> [u8; 1048576]
     ensures { λ r. ⌜ 1048576 ≡ length r ⌝ }
 {
     [0; 1048576]
@@ -162,7 +162,7 @@ fn pass(
     m: Machine,
     log: &mut [u8],
 ) {
-    let mut spare = session_buffer();
+    let mut spare = zeros();
     let mut output = io::large_buffer();
     let watch = Watch {
         log: terms.log,
@@ -201,7 +201,7 @@ fn pass_either(
     m: Machine,
 ) {
     if terms.log {
-        let mut log = session_buffer();
+        let mut log = zeros();
         pass(state_name, names, image, session, size, terms, m, &mut log);
         return;
     }
@@ -253,7 +253,7 @@ fn start(
 
 // A night that has STATE.night to itself.
 fn run(image_name: &[u8], session_name: &[u8], state_name: &[u8], names: &[u8], terms: Terms) {
-    let mut session = session_buffer();
+    let mut session = zeros();
     let held = read_file(session_name, &mut session);
     match held {
         Held::Bytes(size) => start(image_name, state_name, names, &mut session, size, terms),

@@ -157,54 +157,14 @@ fn show_logged(
     night
 }
 
-// NMI and IRQ1 at 100, IRQ1 high at 130, NMI at 1,000,000,007 and at 2,000,000,000; N is 1,000,000,100. What is left of N is run with
-// another log.
+// NMI and IRQ1 at 100, IRQ1 high at 130, NMI at 1,000,000,007 and at 2,000,000,000.
+const WAKING: [u8; 42] =
+    *b"\x06\0\x04\0\x64\0\0\0\x07\0\x03\0\x64\0\0\0\0\x07\0\x03\0\x82\0\0\0\x01\x06\0\x04\0\x07\xCA\x9A\x3B\x06\0\x04\0\0\x94\x35\x77";
+
+// A night of 1,000,000,100 cycles. What is left of them is run with another log.
 fn show_waking(asked: bool, log: &mut [u8], further: &mut [u8]) {
     let mut image = waking();
-    let mut session = [
-        6u8,
-        0,
-        4,
-        0,
-        0x64,
-        0,
-        0,
-        0,
-        7,
-        0,
-        3,
-        0,
-        0x64,
-        0,
-        0,
-        0,
-        0,
-        7,
-        0,
-        3,
-        0,
-        0x82,
-        0,
-        0,
-        0,
-        1,
-        6,
-        0,
-        4,
-        0,
-        0x07,
-        0xCA,
-        0x9A,
-        0x3B,
-        6,
-        0,
-        4,
-        0,
-        0x00,
-        0x94,
-        0x35,
-        0x77,
-    ];
+    let mut session = WAKING;
     let power = cabinet::power_on(&image, 65536);
     match power {
         Power::On(m) => {

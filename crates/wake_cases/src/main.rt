@@ -24,20 +24,38 @@ struct Room {
     watch: Watch,
 }
 
-// Every vector leads to $0200, where the code stays in place; power-on starts at $0100 with this opcode.
+// Each vector leads to an address of its own, $0200 to $0260, where the code stays in place; power-on starts at $0100 with this opcode.
 fn rom(opcode: u8) -> [u8; 65536] {
     let mut image = [0u8; 65536];
-    image[0xFFF0] = 0x02;
-    image[0xFFF2] = 0x02;
-    image[0xFFF4] = 0x02;
-    image[0xFFF6] = 0x02;
-    image[0xFFF8] = 0x02;
-    image[0xFFFA] = 0x02;
     image[0xFFFC] = 0x02;
+    image[0xFFF8] = 0x02;
+    image[0xFFF9] = 0x10;
+    image[0xFFF6] = 0x02;
+    image[0xFFF7] = 0x20;
+    image[0xFFF4] = 0x02;
+    image[0xFFF5] = 0x30;
+    image[0xFFF2] = 0x02;
+    image[0xFFF3] = 0x40;
+    image[0xFFF0] = 0x02;
+    image[0xFFF1] = 0x50;
+    image[0xFFFA] = 0x02;
+    image[0xFFFB] = 0x60;
     image[0xFFFE] = 0x01;
     image[0x0100] = opcode;
     image[0x0200] = 0x20;
     image[0x0201] = 0xFE;
+    image[0x0210] = 0x20;
+    image[0x0211] = 0xFE;
+    image[0x0220] = 0x20;
+    image[0x0221] = 0xFE;
+    image[0x0230] = 0x20;
+    image[0x0231] = 0xFE;
+    image[0x0240] = 0x20;
+    image[0x0241] = 0xFE;
+    image[0x0250] = 0x20;
+    image[0x0251] = 0xFE;
+    image[0x0260] = 0x20;
+    image[0x0261] = 0xFE;
     image
 }
 
@@ -294,8 +312,8 @@ fn sending(causes: u8) -> Start {
     s
 }
 
-fn on_registers() -> Start {
-    let mut s = holding(0x0A, false);
+fn on_registers(causes: u8) -> Start {
+    let mut s = holding(causes, false);
     s.sp = 0x0011;
     s
 }
@@ -313,7 +331,14 @@ fn moments() {
         b"the stack on the registers clears OCF",
         0x01,
         b"",
-        on_registers(),
+        on_registers(0x0A),
+        logged(20, 8),
+    );
+    both(
+        b"the stack clears the cause itself",
+        0x01,
+        b"",
+        on_registers(0x08),
         logged(20, 8),
     );
     both(
@@ -338,15 +363,16 @@ fn rooms() {
     both(b"full in a wait", 0x01, &LOW, waiting(), logged(1000, 0));
 }
 
-fn silent(log: usize) -> Room {
+// No room for a row nor for a byte to be sent.
+fn no_room() -> Room {
     let mut r = logged(20, 0);
-    r.output = log;
+    r.output = 0;
     r
 }
 
 fn orders() {
     let nmi = holding(0x01, false);
-    both(b"9 before 11", 0x01, b"", sending(0x01), silent(0));
+    both(b"9 before 11", 0x01, b"", sending(0x01), no_room());
     both(b"0 before 11", 0x01, b"", nmi, logged(0, 0));
     both(b"11 before 8", 0x00, b"", nmi, logged(20, 0));
     both(b"3 before all", 0x01, b"", nmi, logged(1000000001, 8));
