@@ -19,7 +19,8 @@ plain-call-spec =
     (λ c. search needs)  -- same-length-3
     (λ c. search needs)  -- same-length-4
     (λ c.
-    let a = c .before .before .before .before .before .before .before .before .before .before .before .before .before .before .before .before .before .before .before .before .before .args in
+    let d = c .before .before .before .before .before .before .before .before .before in
+    let a = d .before .before .before .before .before .before .before .before .before .before .before .before .args in
     let b = buffers (a .machine .now) (lent (a .image .now) (a .output .now)) (a .result .now) in
-    let run = c .before .before .before .before .before .before .before .before .before .run-call in
-    plain-left (a .leaping) (a .session .now) (a .n) b (c .before .before .before .before .before .before .before .before .before .before .before .before .before .nothing .ensures) (run .kept .1 .1 .1 .1 .1 .1 .1 .0) (run .ensures)))  -- returns
+    let run = d .run-call in
+    plain-left (a .leaping) (a .session .now) (a .n) b (d .before .before .before .before .nothing .ensures) (run .kept .1 .1 .1 .1 .1 .1 .1 .0) (run .ensures)))  -- returns

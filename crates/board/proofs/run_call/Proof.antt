@@ -25,8 +25,9 @@ run-call-spec =
     (λ c κs. search needs)  -- save-requires
     (λ c κs. search needs)  -- counted-requires
     (λ c κs.
-    let e = c .before .before .before .before .before .before .before .before .before .before .before .before .before .before .before .before .before .before .before .before .before .before .before .before .before .record-size .ensures in
-    let h = c .before .before .before .before .before .before .before .before .before .before .before .before .before .before .before .before .before .before .before .before .before .before .before .before .if1 .left in
+    let d = c .before .before .before .before .before .before .before .before .before .before .before .before in
+    let e = d .before .before .before .before .before .before .before .before .before .before .before .before .before .record-size .ensures in
+    let h = d .before .before .before .before .before .before .before .before .before .before .before .before .if1 .left in
     omega arith)  -- report-requires
     (λ c. search needs)  -- enum-told
     (λ c. search needs)  -- enum-told-2
@@ -56,19 +57,22 @@ run-call-spec =
     let a = c .before .before .before .before .before .before .before .before .before .before .before .before .args in
     let t = watching (a .session .now) (a .n) (a .watch) in
     let b = buffers (a .machine .now) (lending (a .image .now) (a .output .now) (a .log .now)) (a .result .now) in
-    on-loaded (a .leaping) t b (c .before .before .before .before .before .record-size .ensures) (c .before .before .before .before .if1 .left) (c .before .before .load .ensures) _ (c .enum-told .given .1))  -- returns-3
+    on-loaded (a .leaping) t b (c .before .before .before .before .before .record-size .ensures) (c .before .before .before .before .if1 .left)
+    (c .before .before .load .ensures) _ (c .enum-told .given .1))  -- returns-3
     (λ c. search needs)  -- same-length-7
     (λ c.
     let a = c .before .before .before .before .before .before .before .before .before .before .before .before .args in
     let t = watching (a .session .now) (a .n) (a .watch) in
     let b = buffers (a .machine .now) (lending (a .image .now) (a .output .now) (a .log .now)) (a .result .now) in
-    on-loaded (a .leaping) t b (c .before .before .before .before .before .record-size .ensures) (c .before .before .before .before .if1 .left) (c .before .before .load .ensures) _ (c .enum-told2 .given .1))  -- returns-4
+    on-loaded (a .leaping) t b (c .before .before .before .before .before .record-size .ensures) (c .before .before .before .before .if1 .left)
+    (c .before .before .load .ensures) _ (c .enum-told2 .given .1))  -- returns-4
     (λ c. search needs)  -- same-length-8
     (λ c.
     let a = c .before .before .before .before .before .before .before .before .before .before .before .before .args in
     let t = watching (a .session .now) (a .n) (a .watch) in
     let b = buffers (a .machine .now) (lending (a .image .now) (a .output .now) (a .log .now)) (a .result .now) in
-    on-loaded (a .leaping) t b (c .before .before .before .before .before .record-size .ensures) (c .before .before .before .before .if1 .left) (c .before .before .load .ensures) _ (c .enum-told3 .given .1))  -- returns-5
+    on-loaded (a .leaping) t b (c .before .before .before .before .before .record-size .ensures) (c .before .before .before .before .if1 .left)
+    (c .before .before .load .ensures) _ (c .enum-told3 .given .1))  -- returns-5
     (λ c. search needs)  -- same-length-9
     (λ c. search needs)  -- same-length-10
     (λ c. search needs)  -- same-length-11
@@ -78,4 +82,5 @@ run-call-spec =
     let t = watching (a .session .now) (a .n) (a .watch) in
     let b = buffers (a .machine .now) (lending (a .image .now) (a .output .now) (a .log .now)) (a .result .now) in
     refused-2 (a .leaping) t b (c .before .before .before .before .unfit .ensures) (c .before .before .refuse .ensures)
-    ∙ on-loaded (a .leaping) t b (l .before .before .before .before .before .record-size .ensures) (l .before .before .before .before .if1 .left) (l .before .before .load .ensures) _ (l .enum-told4 .given .1)))  -- returns-6
+    ∙ on-loaded (a .leaping) t b (l .before .before .before .before .before .record-size .ensures) (l .before .before .before .before .if1 .left)
+    (l .before .before .load .ensures) _ (l .enum-told4 .given .1)))  -- returns-6

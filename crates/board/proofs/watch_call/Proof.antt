@@ -23,8 +23,9 @@ watch-call-spec =
     (λ c. search needs)  -- same-length-4
     (λ c. search needs)  -- same-length-5
     (λ c.
-    let k = c .before .before .before .before .before .before .before .before .before .before .before .before .before .before .before .before .before in
+    let d = c .before .before .before .before .before .before .before .before .before .before in
+    let k = d .before .before .before .before .before .before .before in
     let a = k .before .before .before .before .before .before .before .before .args in
     let b = buffers (a .machine .now) (lending (a .image .now) (a .output .now) (a .log .now)) (a .result .now) in
     watch-known (a .leaping) (a .session .now) (a .n) b (a .bits) (a .since) (k .before .unknown-bits .ensures) (k .if1 .left)
-    (c .before .before .before .before .before .before .before .before .before .before .before .before .before .before .before .before .asks-log .ensures) (c .before .before .before .before .before .before .before .before .before .before .run-call .ensures)))  -- returns-2
+    (d .before .before .before .before .before .before .asks-log .ensures) (d .run-call .ensures)))  -- returns-2

@@ -34,8 +34,9 @@ end-spec =
     (λ c. search needs)  -- same-length-4
     (λ c.
     let d = c .before .before .before .before .before .before .before .before in
-    let a = c .before .before .before .before .before .before .before .before .before .before .before .before .before .before .before .before .before .before .before .before .before .args in
+    let k = d .before .before .before .before in
+    let a = k .before .before .before .before .before .before .before .before .before .args in
     let l = lending (a .image .now) (a .output .now) (a .log .now) in
     run-ends (watching (a .session .now) (a .n) (a .watch)) (a .m) l
-    (c .before .before .before .before .before .before .before .before .before .before .before .before .before .before .admit .ensures (a .watch) l) (c .before .before .before .before .before .before .before .before .before .before .before .before .before .before .before .before .start .ensures)
-    (c .stopped .result) (d .run .result .stop) (c .before .before .before .before .before .before .before .before .before .before .before .before .enum-told .given .1) (d .run .ensures) (c .stopped .ensures)))  -- returns-2
+    (k .before .before .admit .ensures (a .watch) l) (k .before .before .before .before .start .ensures)
+    (c .stopped .result) (d .run .result .stop) (k .enum-told .given .1) (d .run .ensures) (c .stopped .ensures)))  -- returns-2

@@ -13,7 +13,11 @@ give-spec =
     (λ c. search needs)  -- cast-k
     (λ c. rw (no-row (c .before .before .args .kind) (c .before .before .args .values .now) (c .before .if1 .left) (c .if2 .taken)) (refl, refl))  -- returns-2
     (λ c. search needs)  -- slice-read-if3
-    (λ c. rw (has-value (c .before .before .before .before .args .kind) (c .before .before .before .before .args .values .now) (c .before .before .before .if1 .left) (c .before .before .if2 .left) (c .if3 .taken)) (refl, refl))  -- returns-3
+    (λ c.
+    let a = c .before .before .before .before .args in
+    rw (has-value (a .kind) (a .values .now) (c .before .before .before .if1 .left) (c .before .before .if2 .left) (c .if3 .taken)) (refl, refl))  -- returns-3
     (λ c. search needs)  -- slice-write-values
     (λ c. search needs)  -- same-length
-    (λ c. rw (is-free (c .before .before .before .before .args .kind) (c .before .before .before .before .args .values .now) (c .before .before .before .if1 .left) (c .before .before .if2 .left) (c .if3 .left)) (refl, refl)))  -- returns-4
+    (λ c.
+    let a = c .before .before .before .before .args in
+    rw (is-free (a .kind) (a .values .now) (c .before .before .before .if1 .left) (c .before .before .if2 .left) (c .if3 .left)) (refl, refl)))  -- returns-4

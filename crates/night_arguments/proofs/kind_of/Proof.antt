@@ -15,8 +15,16 @@ kind-of-spec =
     (λ c. rw (← c .before .before .before .front .ensures, ← c .before .same .ensures, c .if1 .taken))  -- returns
     (λ c. search needs)  -- slice-aggregate-same-2
     (λ c κs. search needs)  -- same-requires-2
-    (λ c. rw (← c .before .before .before .before .before .before .front .ensures, ← c .before .before .before .before .same .ensures, c .before .before .before .if1 .left, ← c .before .same2 .ensures, c .if2 .taken))  -- returns-2
+    (λ c.
+    let d = c .before .before .before in
+    rw (← d .before .before .before .front .ensures, ← d .before .same .ensures, d .if1 .left, ← c .before .same2 .ensures, c .if2 .taken))  -- returns-2
     (λ c. search needs)  -- slice-aggregate-same-3
     (λ c κs. search needs)  -- same-requires-3
-    (λ c. rw (← c .before .before .before .before .before .before .before .before .before .front .ensures, ← c .before .before .before .before .before .before .before .same .ensures, c .before .before .before .before .before .before .if1 .left, ← c .before .before .before .before .same2 .ensures, c .before .before .before .if2 .left, ← c .before .same3 .ensures, c .if3 .taken))  -- returns-3
-    (λ c. rw (← c .before .before .before .before .before .before .before .before .before .front .ensures, ← c .before .before .before .before .before .before .before .same .ensures, c .before .before .before .before .before .before .if1 .left, ← c .before .before .before .before .same2 .ensures, c .before .before .before .if2 .left, ← c .before .same3 .ensures, c .if3 .left)))  -- returns-4
+    (λ c.
+    let d = c .before .before .before in
+    let e = d .before .before .before in
+    rw (← e .before .before .before .front .ensures, ← e .before .same .ensures, e .if1 .left, ← d .before .same2 .ensures, d .if2 .left, ← c .before .same3 .ensures, c .if3 .taken))  -- returns-3
+    (λ c.
+    let d = c .before .before .before in
+    let e = d .before .before .before in
+    rw (← e .before .before .before .front .ensures, ← e .before .same .ensures, e .if1 .left, ← d .before .same2 .ensures, d .if2 .left, ← c .before .same3 .ensures, c .if3 .left)))  -- returns-4

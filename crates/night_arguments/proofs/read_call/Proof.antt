@@ -27,27 +27,30 @@ returns-2 c =
 
 returns-3 : tie.Need-returns-3 Inv-loop μ-loop
 returns-3 c =
-    let l = c .before .before .before .before .before .loop in
-    let k = c .before .before .before .before .before .before .before .before .before .args .kinds .now in
-    rw (c .names-from2 .ensures .1) (l .inv .3 ∙ call-ended k (l .values) (length k) (l .i) (c .before .before .before .before .loop-test .taken) (c .before .before .if2 .left) (c .before .if3 .taken))
+    let d = c .before .before .before .before in
+    let l = d .before .loop in
+    let k = d .before .before .before .before .before .args .kinds .now in
+    rw (c .names-from2 .ensures .1) (l .inv .3 ∙ call-ended k (l .values) (length k) (l .i) (d .loop-test .taken) (c .before .before .if2 .left) (c .before .if3 .taken))
 
 returns-4 : tie.Need-returns-4 Inv-loop μ-loop
 returns-4 c =
-    let l = c .before .before .before .before .before .before .before .before .before .loop in
-    let k = c .before .before .before .before .before .before .before .before .before .before .before .before .before .args .kinds .now in
+    let d = c .before .before .before .before .before in
+    let l = d .before .before .before .before .loop in
+    let k = d .before .before .before .before .before .before .before .before .args .kinds .now in
     let e = sym (c .before .before .before .give .ensures .0) ∙ not-true _ (c .if4 .taken) in
-    l .inv .3 ∙ call-no k (l .values) (length k) (l .i) (c .before .before .before .before .before .before .before .before .loop-test .taken) (c .before .before .before .before .before .before .if2 .left) (c .before .before .before .before .before .if3 .left) e
+    l .inv .3 ∙ call-no k (l .values) (length k) (l .i) (d .before .before .before .loop-test .taken) (d .before .if2 .left) (d .if3 .left) e
     ∙ ap (told 0) (sym (c .before .before .before .give .ensures .1 ∙ passes _ _ e))
 
 loop-again : tie.Need-loop-again Inv-loop μ-loop
 loop-again c =
-    let l = c .before .before .before .before .before .before .before .before .before .loop in
-    let k = c .before .before .before .before .before .before .before .before .before .before .before .before .before .args .kinds .now in
+    let d = c .before .before .before .before .before in
+    let l = d .before .before .before .before .loop in
+    let k = d .before .before .before .before .before .before .before .before .args .kinds .now in
     let e = sym (c .before .before .before .give .ensures .0) ∙ not-false _ (c .if4 .left) in (
       l .inv .0,
       omega arith,
       c .before .before .before .give .kept .1 .1 .0 ∙ l .inv .2,
-      l .inv .3 ∙ call-on k (l .values) (length k) (l .i) (c .before .before .before .before .before .before .before .before .loop-test .taken) (c .before .before .before .before .before .before .if2 .left) (c .before .before .before .before .before .if3 .left) e
+      l .inv .3 ∙ call-on k (l .values) (length k) (l .i) (d .before .before .before .loop-test .taken) (d .before .if2 .left) (d .if3 .left) e
           ∙ ap (λ (v : List ℕ). callFrom (length k) (l .i + 2) v (drop (l .i + 2) k)) (sym (c .before .before .before .give .ensures .1 ∙ picks _ _ e)),
     )
 

@@ -14,7 +14,8 @@ abbrev μ-loop : tie.MeasureT-loop
 
 loop-less : tie.Need-loop-less Inv-loop μ-loop
 loop-less c =
-    rw (c .next .ensures) (falls (c .before .before .before .before .before .files .result) (c .before .before .before .before .loop .op) (c .before .carry-out .result) (c .before .before .before .before .before .before .before .before .args .own)
+    let d = c .before .before .before .before in
+    rw (c .next .ensures) (falls (d .before .files .result) (d .loop .op) (c .before .carry-out .result) (d .before .before .before .before .args .own)
     (sym (c .before .before .before .waits .ensures) ∙ not-true _ (c .before .before .if1 .taken)))
 
 returns : tie.Need-returns Inv-loop μ-loop

@@ -14,7 +14,9 @@ abbrev μ-loop : tie.MeasureT-loop
 
 loop-less : tie.Need-loop-less Inv-loop μ-loop
 loop-less c =
-    rw (c .next2 .ensures) (makes-fall (c .before .before .before .before .before .before .files .result) (c .before .before .before .before .loop .op) (c .before .make-file .result) true (sym (c .before .before .before .is-make .ensures) ∙ c .before .before .if1 .taken))
+    let d = c .before .before .before .before in
+    rw (c .next2 .ensures) (makes-fall (d .before .before .files .result) (d .loop .op) (c .before .make-file .result) true
+    (sym (c .before .before .before .is-make .ensures) ∙ c .before .before .if1 .taken))
 
 pub finish-spec : {M : Type 1} → statement M
 finish-spec =

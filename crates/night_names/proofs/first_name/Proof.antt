@@ -23,7 +23,9 @@ returns c =
     sym (l .inv .1 ∙ ap (λ (r : List ℕ). take (l .n) t ++ r) (first-cut t (l .n) (c .before .before .before .loop-test .taken) (c .before .if1 .taken)) ∙ append-nil (take (l .n) t))
 
 loop-again : tie.Need-loop-again Inv-loop μ-loop
-loop-again c = (omega arith, c .before .before .before .loop .inv .1 ∙ first-uncut (c .before .before .before .before .args .names .now) (c .before .before .before .loop .n) (c .before .before .loop-test .taken) (c .if1 .left))
+loop-again c =
+    let l = c .before .before .before .loop in
+    (omega arith, l .inv .1 ∙ first-uncut (c .before .before .before .before .args .names .now) (l .n) (c .before .before .loop-test .taken) (c .if1 .left))
 
 returns-2 : tie.Need-returns-2 Inv-loop μ-loop
 returns-2 c =
@@ -40,7 +42,9 @@ first-name-spec =
     μ-loop
     (λ c. (omega arith, refl))  -- loop-holds
     (λ c. omega arith)  -- shared-slice-read-if1
-    (λ c. sym (length-take-le (c .before .before .before .before .loop .n) (c .before .before .before .before .before .args .names .now) (c .before .before .before .before .loop .inv .0)))  -- slice-aggregate-result
+    (λ c.
+    let l = c .before .before .before .before .loop in
+    sym (length-take-le (l .n) (c .before .before .before .before .before .args .names .now) (l .inv .0)))  -- slice-aggregate-result
     returns
     (λ c. omega arith)  -- add-n
     (λ c. omega arith)  -- loop-less

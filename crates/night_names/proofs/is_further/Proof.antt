@@ -19,12 +19,14 @@ is-further-spec =
     (λ c. search needs)  -- part-is-among-start
     (λ c. search needs)  -- part-is-among-end
     (λ c κs. search needs)  -- is-among-requires
-    (λ c. rw (
+    (λ c.
+    let f = c .before .before .before .before .before .before .before .before .before .before .before .args .file .now in
+    rw (
       c .before .before .before .before .before .is-place .ensures,
       c .before .before .before .before .is-beside .ensures,
       c .before .before .before .is-of-state .ensures,
       c .before .before .same .ensures,
       c .is-among .ensures,
       c .before .before .before .before .before .before .last-at .ensures .1,
-      take-rest (lastAt (c .before .before .before .before .before .before .before .before .before .before .before .args .file .now)) (c .before .before .before .before .before .before .before .before .before .before .before .args .file .now),
+      take-rest (lastAt f) f,
     )))  -- returns

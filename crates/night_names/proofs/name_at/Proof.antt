@@ -15,4 +15,6 @@ name-at-spec =
     (λ c. search needs)  -- part-first-name-start
     (λ c. search needs)  -- part-first-name-end
     (λ c κs. search needs)  -- first-name-requires
-    (λ c. c .first-name .ensures ∙ ap (nameAt 0) (take-rest (c .before .before .name-begins .result) (c .before .before .before .before .args .names .now)) ∙ sym (c .before .before .name-begins .ensures .1)))  -- returns
+    (λ c.
+    let d = c .before .before in
+    c .first-name .ensures ∙ ap (nameAt 0) (take-rest (d .name-begins .result) (d .before .before .args .names .now)) ∙ sym (d .name-begins .ensures .1)))  -- returns

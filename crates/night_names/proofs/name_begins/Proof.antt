@@ -41,7 +41,9 @@ name-begins-spec =
     Inv-loop
     μ-loop
     (λ c. (omega arith, refl))  -- loop-holds
-    (λ c. (c .before .before .loop .inv .0, c .before .before .loop .inv .1 ∙ ap (λ (j : ℕ). nameAt j (drop (c .before .before .loop .i) (c .before .before .before .args .names .now))) (c .if1 .taken)))  -- returns
+    (λ c.
+    let l = c .before .before .loop in
+    (l .inv .0, l .inv .1 ∙ ap (λ (j : ℕ). nameAt j (drop (l .i) (c .before .before .before .args .names .now))) (c .if1 .taken)))  -- returns
     (λ c. omega arith)  -- shared-slice-read-if2
     (λ c. let n = c .before .before .if1 .left in omega arith)  -- sub-left
     (λ c. omega arith)  -- add-i

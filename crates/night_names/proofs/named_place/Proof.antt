@@ -14,4 +14,7 @@ named-place-spec =
     (λ c κs. search needs)  -- name-at-requires
     (λ c κs. search needs)  -- joined-requires
     (λ c. search needs)  -- same-length
-    (λ c. (c .before .before .joined .ensures .0, c .before .before .joined .ensures .1 ∙ named-is (c .before .before .before .before .before .before .before .before .before .before .args .k) _ (c .before .before .before .before .before .before .before .before .before .before .args .names .now) _ _ (c .before .before .before .before .before .before .last-at .ensures .1) (c .before .before .before .before .name-at .ensures))))  -- returns
+    (λ c.
+    let a = c .before .before .before .before .before .before .before .before .before .before .args in
+    let r = c .before .before .joined .ensures in
+    (r .0, r .1 ∙ named-is (a .k) _ (a .names .now) _ _ (c .before .before .before .before .before .before .last-at .ensures .1) (c .before .before .before .before .name-at .ensures))))  -- returns

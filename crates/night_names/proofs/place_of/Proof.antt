@@ -34,4 +34,9 @@ place-of-spec =
     (λ c. search needs)  -- same-length-5
     (λ c. rw (c .before .before .before .before .match .keys4) (c .before .before .named-place3 .ensures))  -- returns-5
     (λ c. search needs)  -- same-length-6
-    (λ c. let r = c .before .before .before .before .before .match .rest in let h = c .before .before .before .before .before .before .if1 .left in let e : c .before .before .before .before .before .before .before .before .before .before .args .i ≡ 4 = last-file _ h (r .0 .0 .0 .1) (r .0 .0 .1) (r .0 .1) (r .1) in rw e (c .before .before .joined3 .ensures)))  -- returns-6
+    (λ c.
+    let d = c .before .before .before .before .before in
+    let r = d .match .rest in
+    let h = d .before .if1 .left in
+    let e : d .before .before .before .before .before .args .i ≡ 4 = last-file _ h (r .0 .0 .0 .1) (r .0 .0 .1) (r .0 .1) (r .1) in
+    rw e (c .before .before .joined3 .ensures)))  -- returns-6

@@ -21,7 +21,8 @@ with-name-spec =
     (λ c. search needs)  -- part-joined-end
     (λ c κs. search needs)  -- joined-requires-2
     (λ c. search needs)  -- same-length
-    (λ c. (
+    (λ c.
+    let d = c .before .before .before .before .before .before .before in (
       c .before .before .joined2 .ensures .0,
-      c .before .before .joined2 .ensures .1 ∙ with-is _ _ _ (c .before .before .before .before .before .before .before .before .before .before .before .last-at .ensures .1) (c .before .before .before .before .before .before .before .before .before .before .buffer .ensures) (c .before .before .before .before .before .before .before .joined .ensures .1),
+      c .before .before .joined2 .ensures .1 ∙ with-is _ _ _ (d .before .before .before .before .last-at .ensures .1) (d .before .before .before .buffer .ensures) (d .joined .ensures .1),
     )))  -- returns

@@ -19,8 +19,9 @@ accept-spec =
     (λ c. search needs)  -- same-length
     (λ c. search needs)  -- same-length-2
     (λ c.
-    let a = c .before .before .before .before .before .before .before .before .before .before .args in
+    let d = c .before .before .before .before .before .before in
+    let a = d .before .before .before .before .args in
     λ o.
-    ap (λ (w : World). more w) (c .before .before .enter .ensures (lending (a .image .now) o (c .before .before .before .before .before .before .log-entry .last .1 .1 .1 .0)))
-    ∙ ap (λ (log : List ℕ). more (enteredWorld (a .cause) (worldOf (a .self) (lending (a .image .now) o log)))) (c .before .before .before .before .before .before .log-entry .ensures)
-    ∙ sym (accept-goes (a .self) (lending (a .image .now) o (a .log .now)) (a .watch) (a .cause) (c .before .before .before .before .before .before .before .before .before .before .pre .1))))  -- returns
+    ap (λ (w : World). more w) (c .before .before .enter .ensures (lending (a .image .now) o (d .log-entry .last .1 .1 .1 .0)))
+    ∙ ap (λ (log : List ℕ). more (enteredWorld (a .cause) (worldOf (a .self) (lending (a .image .now) o log)))) (d .log-entry .ensures)
+    ∙ sym (accept-goes (a .self) (lending (a .image .now) o (a .log .now)) (a .watch) (a .cause) (d .before .before .before .before .pre .1))))  -- returns

@@ -15,7 +15,10 @@ act-spec =
     (tie.spec
     (λ c κs. search needs)  -- pending-requires
     (λ c. search needs)  -- enum-known-p
-    (λ c κs. (c .before .before .before .before .before .before .before .before .pre .0, c .before .before .before .before .before .before .before .before .pre .1 _ (sym (c .before .before .before .before .before .pending .ensures) ∙ c .before .before .before .p .given .1)))  -- accept-requires
+    (λ c κs.
+    let d = c .before .before .before in
+    let h = d .before .before .before .before .before .pre in
+    (h .0, h .1 _ (sym (d .before .before .pending .ensures) ∙ d .p .given .1)))  -- accept-requires
     (λ c. search needs)  -- enum-told
     (λ c κs. search needs)  -- idles-requires
     (λ c κs. search needs)  -- wait-requires
@@ -31,9 +34,10 @@ act-spec =
     (λ c. search needs)  -- same-length
     (λ c. search needs)  -- same-length-2
     (λ c.
-    let a = c .before .before .before .before .before .before .before .before .before .before .before .before .before .args in
+    let d = c .before .before .before .before .before .before .before .before in
+    let a = d .before .before .before .before .before .args in
     let watch : Watch = record { log = a .logs; since = a .since } in
-    let due = sym (c .before .before .before .before .before .before .before .before .before .before .pending .ensures) ∙ c .before .before .before .before .before .before .before .before .p .given .1 in
+    let due = sym (d .before .before .pending .ensures) ∙ d .p .given .1 in
     λ o. c .before .before .before .before .accept .ensures o ∙ sym (act-accepts (a .self) (lending (a .image .now) o (a .log .now)) watch due))  -- returns-2
     (λ c. search needs)  -- same-length-3
     (λ c.

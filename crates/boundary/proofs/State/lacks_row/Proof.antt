@@ -17,7 +17,10 @@ lacks-row-spec =
     (λ c. search needs)  -- enum-known-p
     (λ c. search needs)  -- enum-told
     (λ c.
-    let a = c .before .before .before .before .before .before .before .before .args in
-    lacks-due (a .logs) (a .self) (a .log .now) (not-false _ (c .before .before .before .before .before .before .if1 .left)) (sym (c .before .before .before .before .before .fits-row .ensures) ∙ c .before .before .before .before .if2 .left)
+    let d = c .before .before .before .before in
+    let a = d .before .before .before .before .args in
+    lacks-due (a .logs) (a .self) (a .log .now) (not-false _ (d .before .before .if1 .left)) (sym (d .before .fits-row .ensures) ∙ d .if2 .left)
     (sym (c .before .before .before .pending .ensures) ∙ c .before .p .given .1))  -- returns-3
-    (λ c. let a = c .before .before .before .before .before .before .before .args in lacks-nothing (a .logs) (a .self) (a .log .now) (sym (c .before .before .pending .ensures) ∙ c .enum-told .given .1)))  -- returns-4
+    (λ c.
+    let a = c .before .before .before .before .before .before .before .args in
+    lacks-nothing (a .logs) (a .self) (a .log .now) (sym (c .before .before .pending .ensures) ∙ c .enum-told .given .1)))  -- returns-4
