@@ -1,7 +1,6 @@
--- What every tree of accesses keeps, and so every instruction and every entry: the bus's ranges, R, the image's length, and
--- each image byte where no write is taken. Assumes nothing.
-use Prim.Native.Nat.{ℕ}
-use native.Mathlib.Decide.{ℕ-discrete}
+-- What every tree of accesses keeps, and so every instruction and every entry: the bus's ranges, R, the memories' lengths, and
+-- each byte of them where no write is taken. Assumes nothing.
+use Prim.Native.Nat.{ℕ, _+_}
 use mathlib.Core.Path.{_≡_, refl, _∙_}
 use mathlib.Core.Bool.{true, false}
 use lib.ListN.{length, getD}
@@ -10,7 +9,7 @@ use Rattle.bus.specs.declared.Bus.{Bus}
 use Rattle.bus.specs.Access.{Memories, readOf, writeOf, takes, storeOf}
 use Rattle.bus.specs.Units.{busRanges}
 use Rattle.bus.proofs.Ranges.{read-ranges, write-ranges, read-r, write-r}
-use Rattle.bus.proofs.Stores.{store-ignored, store-other, store-length}
+use Rattle.bus.proofs.Stores.{store-unreached, store-unreached-area, store-length, store-area-length}
 use Rattle.chip.specs.Act.{Act, Act.done, Act.reading, Act.writing, run}
 
 -- what each read and each write keeps, a tree keeps
@@ -37,21 +36,28 @@ run-length t b m =
     run-keeps (λ (c : Bus) (n : Memories). length (n .image) ≡ length (m .image)) (λ at c n h. h) (λ at v c n h. store-length c at v n ∙ h)
     t b m refl
 
--- one write leaves a byte where no write is taken
-untaken : (b : Bus) (at v : ℕ) (m : Memories) (a : ℕ) → takes (b .r) a ≡ false
-    → getD (storeOf b at v m .image) a 0 ≡ getD (m .image) a 0
-untaken b at v m a h = by (ℕ-discrete a at)
-  where
-    by : Dec (a ≡ at) → getD (storeOf b at v m .image) a 0 ≡ getD (m .image) a 0
-    by (yes e) = rw (store-ignored b at v m (rw e at h))
-    by (no n) = store-other b at v m a n
+pub run-area-length : {A : Type 0} (t : Act A) (b : Bus) (m : Memories) → length (run t b m .memory .area) ≡ length (m .area)
+run-area-length t b m =
+    run-keeps (λ (c : Bus) (n : Memories). length (n .area) ≡ length (m .area)) (λ at c n h. h) (λ at v c n h. store-area-length c at v n ∙ h)
+    t b m refl
 
--- an image byte changes only where a write is taken
-pub run-untaken : {A : Type 0} (t : Act A) (b : Bus) (m : Memories) (a : ℕ) → takes (b .r) a ≡ false
+-- what holds of a memory and stays with each write at this R, stays with a tree
+run-unmoved : {A : Type 0} (P : Memories → Type 0) (t : Act A) (b : Bus) (m : Memories)
+    → ((at v : ℕ) (c : Bus) (n : Memories) → c .r ≡ b .r → P n → P (storeOf c at v n)) → P m → P (run t b m .memory)
+run-unmoved P t b m stays h =
+    run-keeps (λ (c : Bus) (n : Memories). (c .r ≡ b .r) × P n)
+    (λ at c n k. (read-r n at c ∙ k .0, k .1))
+    (λ at v c n k. (write-r at v c ∙ k .0, stays at v c n (k .0) (k .1)))
+    t b m (refl, h)
+    .1
+
+-- an image byte changes only where a write is taken with bit 6 of $14 set, an area byte only where one is with bit 6 clear
+pub run-untaken : {A : Type 0} (t : Act A) (b : Bus) (m : Memories) (a : ℕ) → takes true (b .r) a ≡ false
     → getD (run t b m .memory .image) a 0 ≡ getD (m .image) a 0
 run-untaken t b m a h =
-    run-keeps (λ (c : Bus) (n : Memories). (c .r ≡ b .r) × (getD (n .image) a 0 ≡ getD (m .image) a 0))
-    (λ at c n k. (read-r n at c ∙ k .0, k .1))
-    (λ at v c n k. (write-r at v c ∙ k .0, untaken c at v n a (rw (k .0) h) ∙ k .1))
-    t b m (refl, refl)
-    .1
+    run-unmoved (λ (n : Memories). getD (n .image) a 0 ≡ getD (m .image) a 0) t b m (λ at v c n r k. store-unreached c at v n a (rw r h) ∙ k) refl
+
+pub run-untaken-area : {A : Type 0} (t : Act A) (b : Bus) (m : Memories) (k : ℕ) → takes false (b .r) (128 + k) ≡ false
+    → getD (run t b m .memory .area) k 0 ≡ getD (m .area) k 0
+run-untaken-area t b m k h =
+    run-unmoved (λ (n : Memories). getD (n .area) k 0 ≡ getD (m .area) k 0) t b m (λ at v c n r e. store-unreached-area c at v n k (rw r h) ∙ e) refl

@@ -1,4 +1,4 @@
-// The processor on its bus: each instruction over registers, units and the lent image.
+// The processor on its bus: each instruction over registers, units and the lent memories.
 use bits::minus;
 use bits::plus;
 use bus::Bus;
@@ -53,11 +53,12 @@ pub struct PoppedWord {
 }
 
 // Two bytes, the high one first.
-pub fn read_word(b: Bus, image: &[u8], at: u16) -> WordRead
-    ensures { λ r. ⌜ run (read2 at) b (memories (now (image .entry))) ≡ out (r .value) (r .next) (memories (now (image .entry))) ⌝ }
+pub fn read_word(b: Bus, image: &[u8], area: &[u8], at: u16) -> WordRead
+    ensures { λ r. ⌜ run (read2 at) b (memories (now (image .entry)) (now (area .entry)))
+        ≡ out (r .value) (r .next) (memories (now (image .entry)) (now (area .entry))) ⌝ }
 {
-    let h = b.read(image, at);
-    let l = h.next.read(image, plus(at, 1));
+    let h = b.read(image, area, at);
+    let l = h.next.read(image, area, plus(at, 1));
     let next = l.next;
     WordRead {
         value: bits::pair(h.value, l.value),
@@ -65,11 +66,11 @@ pub fn read_word(b: Bus, image: &[u8], at: u16) -> WordRead
     }
 }
 
-fn write_word(b: Bus, image: &mut [u8], at: u16, w: u16) -> Bus
-    ensures { λ r. ⌜ run (write2 at w) b (memories (now (image .entry))) ≡ out tt r (memories (now (image .exit))) ⌝ }
+fn write_word(b: Bus, image: &mut [u8], area: &mut [u8], at: u16, w: u16) -> Bus
+    ensures { λ r. ⌜ run (write2 at w) b (memories (now (image .entry)) (now (area .entry))) ≡ out tt r (memories (now (image .exit)) (now (area .exit))) ⌝ }
 {
-    let c = b.write(image, at, bits::upper(w));
-    c.write(image, plus(at, 1), bits::lower(w))
+    let c = b.write(image, area, at, bits::upper(w));
+    c.write(image, area, plus(at, 1), bits::lower(w))
 }
 
 // An operand's address, with PC moved past n bytes of the instruction.
@@ -86,8 +87,9 @@ fn spot_at(at: u16, c: Registers, b: Bus, n: u16) -> Located
 
 impl Chip {
     // Where the operand is.
-    fn locate(self, place: Place, image: &[u8]) -> Located
-        ensures { λ r. ⌜ runOn (operand place) self (memories (now (image .entry))) ≡ located r (memories (now (image .entry))) ⌝ }
+    fn locate(self, place: Place, image: &[u8], area: &[u8]) -> Located
+        ensures { λ r. ⌜ runOn (operand place) self (memories (now (image .entry)) (now (area .entry)))
+            ≡ located r (memories (now (image .entry)) (now (area .entry))) ⌝ }
     {
         let c = self.registers;
         let b = self.bus;
@@ -98,19 +100,19 @@ impl Chip {
             Place::ImmediateByte => spot_at(c.pc, c, b, 1),
             Place::ImmediateWord => spot_at(c.pc, c, b, 2),
             Place::Direct => {
-                let f = b.read(image, c.pc);
+                let f = b.read(image, area, c.pc);
                 spot_at(f.value as u16, c, f.next, 1)
             }
             Place::Indexed => {
-                let f = b.read(image, c.pc);
+                let f = b.read(image, area, c.pc);
                 spot_at(plus(c.x, f.value as u16), c, f.next, 1)
             }
             Place::Extended => {
-                let w = read_word(b, image, c.pc);
+                let w = read_word(b, image, area, c.pc);
                 spot_at(w.value, c, w.next, 2)
             }
             Place::Relative => {
-                let f = b.read(image, c.pc);
+                let f = b.read(image, area, c.pc);
                 let at = plus(plus(c.pc, 1), registers::offset_of(f.value));
                 spot_at(at, c, f.next, 1)
             }
@@ -120,11 +122,11 @@ impl Chip {
 
 // The stack.
 impl Chip {
-    fn push(self, v: u8, image: &mut [u8]) -> Chip
-        ensures { λ r. ⌜ runOn (push v) self (memories (now (image .entry))) ≡ ran r (memories (now (image .exit))) ⌝ }
+    fn push(self, v: u8, image: &mut [u8], area: &mut [u8]) -> Chip
+        ensures { λ r. ⌜ runOn (push v) self (memories (now (image .entry)) (now (area .entry))) ≡ ran r (memories (now (image .exit)) (now (area .exit))) ⌝ }
     {
         let c = self.registers;
-        let bus = self.bus.write(image, c.sp, v);
+        let bus = self.bus.write(image, area, c.sp, v);
         let registers = c.with_sp(minus(c.sp, 1));
         Chip {
             registers: registers,
@@ -132,19 +134,21 @@ impl Chip {
         }
     }
 
-    fn push_word(self, w: u16, image: &mut [u8]) -> Chip
-        ensures { λ r. ⌜ runOn (push2 w) self (memories (now (image .entry))) ≡ ran r (memories (now (image .exit))) ⌝ }
+    fn push_word(self, w: u16, image: &mut [u8], area: &mut [u8]) -> Chip
+        ensures { λ r. ⌜ runOn (push2 w) self (memories (now (image .entry)) (now (area .entry)))
+            ≡ ran r (memories (now (image .exit)) (now (area .exit))) ⌝ }
     {
-        let p = self.push(bits::lower(w), image);
-        p.push(bits::upper(w), image)
+        let p = self.push(bits::lower(w), image, area);
+        p.push(bits::upper(w), image, area)
     }
 
-    fn pull(self, image: &[u8]) -> Popped
-        ensures { λ r. ⌜ runOn pull self (memories (now (image .entry))) ≡ popped r (memories (now (image .entry))) ⌝ }
+    fn pull(self, image: &[u8], area: &[u8]) -> Popped
+        ensures { λ r. ⌜ runOn pull self (memories (now (image .entry)) (now (area .entry)))
+            ≡ popped r (memories (now (image .entry)) (now (area .entry))) ⌝ }
     {
         let c = self.registers;
         let sp = plus(c.sp, 1);
-        let f = self.bus.read(image, sp);
+        let f = self.bus.read(image, area, sp);
         let bus = f.next;
         let registers = c.with_sp(sp);
         let chip = Chip {
@@ -157,11 +161,12 @@ impl Chip {
         }
     }
 
-    fn pull_word(self, image: &[u8]) -> PoppedWord
-        ensures { λ r. ⌜ runOn pull2 self (memories (now (image .entry))) ≡ poppedWord r (memories (now (image .entry))) ⌝ }
+    fn pull_word(self, image: &[u8], area: &[u8]) -> PoppedWord
+        ensures { λ r. ⌜ runOn pull2 self (memories (now (image .entry)) (now (area .entry)))
+            ≡ poppedWord r (memories (now (image .entry)) (now (area .entry))) ⌝ }
     {
-        let h = self.pull(image);
-        let l = h.chip.pull(image);
+        let h = self.pull(image, area);
+        let l = h.chip.pull(image, area);
         let chip = l.chip;
         PoppedWord {
             value: bits::pair(h.value, l.value),
@@ -170,25 +175,26 @@ impl Chip {
     }
 
     // All registers, PC first.
-    fn stack_all(self, image: &mut [u8]) -> Chip
-        ensures { λ r. ⌜ runOn stackAll self (memories (now (image .entry))) ≡ ran r (memories (now (image .exit))) ⌝ }
+    fn stack_all(self, image: &mut [u8], area: &mut [u8]) -> Chip
+        ensures { λ r. ⌜ runOn stackAll self (memories (now (image .entry)) (now (area .entry))) ≡ ran r (memories (now (image .exit)) (now (area .exit))) ⌝ }
     {
         let c = self.registers;
-        let words = self.push_word(c.pc, image).push_word(c.x, image);
+        let words = self.push_word(c.pc, image, area)
+            .push_word(c.x, image, area);
         words
-            .push(c.a, image)
-            .push(c.b, image)
-            .push(c.codes.to_byte(), image)
+            .push(c.a, image, area)
+            .push(c.b, image, area)
+            .push(c.codes.to_byte(), image, area)
     }
 
-    fn rti(self, image: &[u8]) -> Chip
-        ensures { λ r. ⌜ runOn rti self (memories (now (image .entry))) ≡ ran r (memories (now (image .entry))) ⌝ }
+    fn rti(self, image: &[u8], area: &[u8]) -> Chip
+        ensures { λ r. ⌜ runOn rti self (memories (now (image .entry)) (now (area .entry))) ≡ ran r (memories (now (image .entry)) (now (area .entry))) ⌝ }
     {
-        let k = self.pull(image);
-        let b = k.chip.pull(image);
-        let a = b.chip.pull(image);
-        let x = a.chip.pull_word(image);
-        let pc = x.chip.pull_word(image);
+        let k = self.pull(image, area);
+        let b = k.chip.pull(image, area);
+        let a = b.chip.pull(image, area);
+        let x = a.chip.pull_word(image, area);
+        let pc = x.chip.pull_word(image, area);
         let chip = pc.chip;
         let bus = chip.bus;
         let registers = Registers {
@@ -207,11 +213,12 @@ impl Chip {
     }
 
     // I set, PC from a vector, no wait.
-    fn vectored(self, vector: u16, image: &[u8]) -> Chip
-        ensures { λ r. ⌜ runOn (vectored vector) self (memories (now (image .entry))) ≡ ran r (memories (now (image .entry))) ⌝ }
+    fn vectored(self, vector: u16, image: &[u8], area: &[u8]) -> Chip
+        ensures { λ r. ⌜ runOn (vectored vector) self (memories (now (image .entry)) (now (area .entry)))
+            ≡ ran r (memories (now (image .entry)) (now (area .entry))) ⌝ }
     {
         let c = self.registers;
-        let w = read_word(self.bus, image, vector);
+        let w = read_word(self.bus, image, area, vector);
         let bus = w.next;
         let registers = c.with_pc(w.value)
             .with_codes(registers::with_i(c.codes, true))
@@ -222,17 +229,17 @@ impl Chip {
         }
     }
 
-    fn swi(self, image: &mut [u8]) -> Chip
-        ensures { λ r. ⌜ runOn swi self (memories (now (image .entry))) ≡ ran r (memories (now (image .exit))) ⌝ }
+    fn swi(self, image: &mut [u8], area: &mut [u8]) -> Chip
+        ensures { λ r. ⌜ runOn swi self (memories (now (image .entry)) (now (area .entry))) ≡ ran r (memories (now (image .exit)) (now (area .exit))) ⌝ }
     {
-        let p = self.stack_all(image);
-        p.vectored(tables::address_of(Vector::Swi), image)
+        let p = self.stack_all(image, area);
+        p.vectored(tables::address_of(Vector::Swi), image, area)
     }
 
-    fn wai(self, image: &mut [u8]) -> Chip
-        ensures { λ r. ⌜ runOn wai self (memories (now (image .entry))) ≡ ran r (memories (now (image .exit))) ⌝ }
+    fn wai(self, image: &mut [u8], area: &mut [u8]) -> Chip
+        ensures { λ r. ⌜ runOn wai self (memories (now (image .entry)) (now (area .entry))) ≡ ran r (memories (now (image .exit)) (now (area .exit))) ⌝ }
     {
-        let p = self.stack_all(image);
+        let p = self.stack_all(image, area);
         let bus = p.bus;
         let registers = p.registers.with_waiting(true);
         Chip {
@@ -242,14 +249,15 @@ impl Chip {
     }
 
     // Interrupt entry.
-    pub fn enter(self, vector: u16, image: &mut [u8]) -> Chip
-        ensures { λ r. ⌜ runOn (enter vector) self (memories (now (image .entry))) ≡ ran r (memories (now (image .exit))) ⌝ }
+    pub fn enter(self, vector: u16, image: &mut [u8], area: &mut [u8]) -> Chip
+        ensures { λ r. ⌜ runOn (enter vector) self (memories (now (image .entry)) (now (area .entry)))
+            ≡ ran r (memories (now (image .exit)) (now (area .exit))) ⌝ }
     {
         if self.registers.waiting {
-            return self.vectored(vector, image);
+            return self.vectored(vector, image, area);
         }
-        let p = self.stack_all(image);
-        p.vectored(vector, image)
+        let p = self.stack_all(image, area);
+        p.vectored(vector, image, area)
     }
 }
 
@@ -266,11 +274,12 @@ impl Chip {
         }
     }
 
-    fn load(self, op: Loading, at: u16, image: &[u8]) -> Chip
-        ensures { λ r. ⌜ runOn (loads op at) self (memories (now (image .entry))) ≡ ran r (memories (now (image .entry))) ⌝ }
+    fn load(self, op: Loading, at: u16, image: &[u8], area: &[u8]) -> Chip
+        ensures { λ r. ⌜ runOn (loads op at) self (memories (now (image .entry)) (now (area .entry)))
+            ≡ ran r (memories (now (image .entry)) (now (area .entry))) ⌝ }
     {
         let c = self.registers;
-        let f = self.bus.read(image, op.address(at, c));
+        let f = self.bus.read(image, area, op.address(at, c));
         let bus = f.next;
         let registers = op.loaded(f.value, c);
         Chip {
@@ -279,11 +288,12 @@ impl Chip {
         }
     }
 
-    fn load_word(self, op: LoadingWord, at: u16, image: &[u8]) -> Chip
-        ensures { λ r. ⌜ runOn (loadsWord op at) self (memories (now (image .entry))) ≡ ran r (memories (now (image .entry))) ⌝ }
+    fn load_word(self, op: LoadingWord, at: u16, image: &[u8], area: &[u8]) -> Chip
+        ensures { λ r. ⌜ runOn (loadsWord op at) self (memories (now (image .entry)) (now (area .entry)))
+            ≡ ran r (memories (now (image .entry)) (now (area .entry))) ⌝ }
     {
         let c = self.registers;
-        let w = read_word(self.bus, image, op.address(at, c));
+        let w = read_word(self.bus, image, area, op.address(at, c));
         let bus = w.next;
         let registers = op.loaded(w.value, c);
         Chip {
@@ -292,11 +302,12 @@ impl Chip {
         }
     }
 
-    fn store(self, op: Storing, at: u16, image: &mut [u8]) -> Chip
-        ensures { λ r. ⌜ runOn (stores op at) self (memories (now (image .entry))) ≡ ran r (memories (now (image .exit))) ⌝ }
+    fn store(self, op: Storing, at: u16, image: &mut [u8], area: &mut [u8]) -> Chip
+        ensures { λ r. ⌜ runOn (stores op at) self (memories (now (image .entry)) (now (area .entry)))
+            ≡ ran r (memories (now (image .exit)) (now (area .exit))) ⌝ }
     {
         let c = self.registers;
-        let bus = self.bus.write(image, op.address(at, c), op.byte(c));
+        let bus = self.bus.write(image, area, op.address(at, c), op.byte(c));
         let registers = op.stored(c);
         Chip {
             registers: registers,
@@ -304,11 +315,12 @@ impl Chip {
         }
     }
 
-    fn store_word(self, op: WideStore, at: u16, image: &mut [u8]) -> Chip
-        ensures { λ r. ⌜ runOn (storesWord op at) self (memories (now (image .entry))) ≡ ran r (memories (now (image .exit))) ⌝ }
+    fn store_word(self, op: WideStore, at: u16, image: &mut [u8], area: &mut [u8]) -> Chip
+        ensures { λ r. ⌜ runOn (storesWord op at) self (memories (now (image .entry)) (now (area .entry)))
+            ≡ ran r (memories (now (image .exit)) (now (area .exit))) ⌝ }
     {
         let c = self.registers;
-        let bus = write_word(self.bus, image, at, c.stored(op));
+        let bus = write_word(self.bus, image, area, at, c.stored(op));
         let registers = operations::stored_word(op, c);
         Chip {
             registers: registers,
@@ -317,13 +329,14 @@ impl Chip {
     }
 
     // Read, modify, write.
-    fn modify(self, op: Monadic, at: u16, image: &mut [u8]) -> Chip
-        ensures { λ r. ⌜ runOn (modifies op at) self (memories (now (image .entry))) ≡ ran r (memories (now (image .exit))) ⌝ }
+    fn modify(self, op: Monadic, at: u16, image: &mut [u8], area: &mut [u8]) -> Chip
+        ensures { λ r. ⌜ runOn (modifies op at) self (memories (now (image .entry)) (now (area .entry)))
+            ≡ ran r (memories (now (image .exit)) (now (area .exit))) ⌝ }
     {
         let c = self.registers;
-        let f = self.bus.read(image, at);
+        let f = self.bus.read(image, area, at);
         let r = arithmetic::monadic(op, f.value, c.codes);
-        let bus = f.next.write(image, at, r.value);
+        let bus = f.next.write(image, area, at, r.value);
         let registers = c.with_codes(r.codes);
         Chip {
             registers: registers,
@@ -331,10 +344,11 @@ impl Chip {
         }
     }
 
-    fn push_of(self, op: Pushing, at: u16, image: &mut [u8]) -> Chip
-        ensures { λ r. ⌜ runOn (pushesWord op at) self (memories (now (image .entry))) ≡ ran r (memories (now (image .exit))) ⌝ }
+    fn push_of(self, op: Pushing, at: u16, image: &mut [u8], area: &mut [u8]) -> Chip
+        ensures { λ r. ⌜ runOn (pushesWord op at) self (memories (now (image .entry)) (now (area .entry)))
+            ≡ ran r (memories (now (image .exit)) (now (area .exit))) ⌝ }
     {
-        let p = self.push_word(op.word(self.registers), image);
+        let p = self.push_word(op.word(self.registers), image, area);
         let bus = p.bus;
         let registers = op.pushed(at, p.registers);
         Chip {
@@ -346,34 +360,42 @@ impl Chip {
 
 // The instruction.
 impl Chip {
-    fn operate(self, operation: Operation, place: Place, at: u16, image: &mut [u8]) -> Chip
-        ensures { λ r. ⌜ runOn (operate operation place at) self (memories (now (image .entry))) ≡ ran r (memories (now (image .exit))) ⌝ }
+    fn operate(
+        self,
+        operation: Operation,
+        place: Place,
+        at: u16,
+        image: &mut [u8],
+        area: &mut [u8],
+    ) -> Chip
+        ensures { λ r. ⌜ runOn (operate operation place at) self (memories (now (image .entry)) (now (area .entry)))
+            ≡ ran r (memories (now (image .exit)) (now (area .exit))) ⌝ }
     {
         let shape = operations::shape_of(operation, place);
         match shape {
             Shape::Nothing(op) => self.quiet(op, at),
-            Shape::Load(op) => self.load(op, at, image),
-            Shape::LoadWord(op) => self.load_word(op, at, image),
-            Shape::Store(op) => self.store(op, at, image),
-            Shape::StoreWord(op) => self.store_word(op, at, image),
-            Shape::Modify(op) => self.modify(op, at, image),
-            Shape::PushWord(op) => self.push_of(op, at, image),
-            Shape::Rti => self.rti(image),
-            Shape::Swi => self.swi(image),
-            Shape::Wai => self.wai(image),
+            Shape::Load(op) => self.load(op, at, image, area),
+            Shape::LoadWord(op) => self.load_word(op, at, image, area),
+            Shape::Store(op) => self.store(op, at, image, area),
+            Shape::StoreWord(op) => self.store_word(op, at, image, area),
+            Shape::Modify(op) => self.modify(op, at, image, area),
+            Shape::PushWord(op) => self.push_of(op, at, image, area),
+            Shape::Rti => self.rti(image, area),
+            Shape::Swi => self.swi(image, area),
+            Shape::Wai => self.wai(image, area),
         }
     }
 
     // The opcode's fetch: below $20 its read may have an effect, above none.
-    fn fetched(mut self, image: &[u8]) -> Chip
+    fn fetched(mut self, image: &[u8], area: &[u8]) -> Chip
         ensures { λ r. ⌜ r ≡ chipOf (withPc (self .registers) (up (self .registers .pc) 1))
-            (readOf (memories (now (image .entry))) (self .registers .pc) (self .bus) .next) ⌝ }
+            (readOf (memories (now (image .entry)) (now (area .entry))) (self .registers .pc) (self .bus) .next) ⌝ }
     {
         let pc = self.registers.pc;
         let registers = self.registers.with_pc(plus(pc, 1));
         self.registers = registers;
         if pc < 32 {
-            let f = self.bus.read(image, pc);
+            let f = self.bus.read(image, area, pc);
             let bus = f.next;
             self.bus = bus;
             return self;
@@ -381,13 +403,14 @@ impl Chip {
         self
     }
 
-    pub fn execute(self, i: Instruction, image: &mut [u8]) -> Chip
-        ensures { λ r. ⌜ runOn (execute i) self (memories (now (image .entry))) ≡ ran r (memories (now (image .exit))) ⌝ }
+    pub fn execute(self, i: Instruction, image: &mut [u8], area: &mut [u8]) -> Chip
+        ensures { λ r. ⌜ runOn (execute i) self (memories (now (image .entry)) (now (area .entry)))
+            ≡ ran r (memories (now (image .exit)) (now (area .exit))) ⌝ }
     {
-        let f = self.fetched(image);
+        let f = self.fetched(image, area);
         let place = i.place;
-        let o = f.locate(place, image);
+        let o = f.locate(place, image, area);
         let operation = i.operation;
-        o.chip.operate(operation, place, o.at, image)
+        o.chip.operate(operation, place, o.at, image, area)
     }
 }

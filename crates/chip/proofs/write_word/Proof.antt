@@ -15,9 +15,14 @@ write-word-spec =
     (λ c κs. search needs)  -- lower-requires
     (λ c κs. search needs)  -- write-requires-2
     (λ c. search needs)  -- same-length
+    (λ c. search needs)  -- same-length-2
     (λ c. after _ _ _ _
     (by-write _ _ _ _
-    (rw (c .before .before .before .before .before .before .before .before .before .upper .ensures) at (c .before .before .before .before .before .before .before .before .write .ensures .0))
-    (rw (c .before .before .before .before .before .before .before .before .before .upper .ensures) at (c .before .before .before .before .before .before .before .before .write .ensures .1)))
-    (by-write _ _ _ _ (rw (c .before .before .before .before .plus .ensures, c .before .before .before .lower .ensures) at (c .before .before .write2 .ensures .0))
-    (rw (c .before .before .before .before .plus .ensures, c .before .before .before .lower .ensures) at (c .before .before .write2 .ensures .1)))))  -- returns
+    (rw (c .before .before .before .before .before .before .before .before .before .before .before .before .before .before .upper .ensures) at
+    (c .before .before .before .before .before .before .before .before .before .before .before .before .before .write .ensures .0))
+    (rw (c .before .before .before .before .before .before .before .before .before .before .before .before .before .before .upper .ensures) at
+    (c .before .before .before .before .before .before .before .before .before .before .before .before .before .write .ensures .1)))
+    (by-write _ _ _ _ (rw (c .before .before .before .before .before .before .plus .ensures, c .before .before .before .before .before .lower .ensures) at
+    (c .before .before .before .before .write2 .ensures .0))
+    (rw (c .before .before .before .before .before .before .plus .ensures, c .before .before .before .before .before .lower .ensures) at
+    (c .before .before .before .before .write2 .ensures .1)))))  -- returns

@@ -9,8 +9,11 @@ enter-spec =
     (tie.spec
     (λ c κs. search needs)  -- vectored-requires
     (λ c. search needs)  -- same-length
-    (λ c. enter-waiting _ _ _ _ (c .before .before .if1 .taken) (c .vectored .ensures))  -- returns
+    (λ c. search needs)  -- same-length-2
+    (λ c. enter-waiting _ _ _ _ (c .before .before .before .if1 .taken) (c .vectored .ensures))  -- returns
     (λ c κs. search needs)  -- stack-all-requires
     (λ c κs. search needs)  -- vectored-requires-2
-    (λ c. search needs)  -- same-length-2
-    (λ c. enter-stacking _ _ _ _ (c .before .before .before .before .before .before .if1 .left) (c .before .before .before .before .stack-all .ensures) (c .vectored2 .ensures)))  -- returns-2
+    (λ c. search needs)  -- same-length-3
+    (λ c. search needs)  -- same-length-4
+    (λ c. enter-stacking _ _ _ _ (c .before .before .before .before .before .before .before .before .before .before .if1 .left)
+    (c .before .before .before .before .before .before .before .stack-all .ensures) (c .vectored2 .ensures)))  -- returns-2

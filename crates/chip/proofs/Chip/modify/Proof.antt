@@ -14,7 +14,8 @@ modify-spec =
     (λ c κs. search needs)  -- write-requires
     (λ c κs. search needs)  -- with-codes-requires
     (λ c. search needs)  -- same-length
-    (λ c. after _ _ _ _ (by-read _ _ _ (c .before .before .before .before .before .before .read .ensures))
-    (after _ _ _ _ (by-write _ _ _ _ (rw (c .before .before .before .before .before .monadic .ensures) at (c .before .before .before .write .ensures .0))
-    (rw (c .before .before .before .before .before .monadic .ensures) at (c .before .before .before .write .ensures .1)))
-    (ends _ _ _ (rw (c .with-codes .ensures, c .before .before .before .before .before .monadic .ensures))))))  -- returns
+    (λ c. search needs)  -- same-length-2
+    (λ c. after _ _ _ _ (by-read _ _ _ (c .before .before .before .before .before .before .before .before .before .read .ensures))
+    (after _ _ _ _ (by-write _ _ _ _ (rw (c .before .before .before .before .before .before .before .before .monadic .ensures) at (c .before .before .before .before .before .write .ensures .0))
+    (rw (c .before .before .before .before .before .before .before .before .monadic .ensures) at (c .before .before .before .before .before .write .ensures .1)))
+    (ends _ _ _ (rw (c .with-codes .ensures, c .before .before .before .before .before .before .before .before .monadic .ensures))))))  -- returns

@@ -34,26 +34,41 @@ operate-spec =
     (λ c κs. search needs)  -- wai-requires
     (λ c. operated _ _ _ _ _ _ (sym (c .before .before .shape .given .1) ∙ c .before .before .before .before .shape-of .ensures) (rw (c .quiet .ensures) (ends _ _ _ refl)))  -- returns
     (λ c. search needs)  -- same-length
-    (λ c. operated _ _ _ _ _ _ (sym (c .before .before .before .shape2 .given .1) ∙ c .before .before .before .before .before .shape-of .ensures) (c .load .ensures))  -- returns-2
     (λ c. search needs)  -- same-length-2
-    (λ c. operated _ _ _ _ _ _ (sym (c .before .before .before .shape3 .given .1) ∙ c .before .before .before .before .before .shape-of .ensures) (c .load-word .ensures))  -- returns-3
+    (λ c. operated _ _ _ _ _ _ (sym (c .before .before .before .before .shape2 .given .1) ∙ c .before .before .before .before .before .before .shape-of .ensures) (c .load .ensures))  -- returns-2
     (λ c. search needs)  -- same-length-3
-    (λ c. operated _ _ _ _ _ _ (sym (c .before .before .before .before .before .shape4 .given .1) ∙ c .before .before .before .before .before .before .before .shape-of .ensures)
-    (c .before .before .store .ensures))  -- returns-4
     (λ c. search needs)  -- same-length-4
-    (λ c. operated _ _ _ _ _ _ (sym (c .before .before .before .before .before .shape5 .given .1) ∙ c .before .before .before .before .before .before .before .shape-of .ensures)
-    (c .before .before .store-word .ensures))  -- returns-5
+    (λ c. operated _ _ _ _ _ _ (sym (c .before .before .before .before .shape3 .given .1) ∙ c .before .before .before .before .before .before .shape-of .ensures) (c .load-word .ensures))  -- returns-3
     (λ c. search needs)  -- same-length-5
-    (λ c. operated _ _ _ _ _ _ (sym (c .before .before .before .before .before .shape6 .given .1) ∙ c .before .before .before .before .before .before .before .shape-of .ensures)
-    (c .before .before .modify .ensures))  -- returns-6
     (λ c. search needs)  -- same-length-6
-    (λ c. operated _ _ _ _ _ _ (sym (c .before .before .before .before .before .shape7 .given .1) ∙ c .before .before .before .before .before .before .before .shape-of .ensures)
-    (c .before .before .push-of .ensures))  -- returns-7
+    (λ c. operated _ _ _ _ _ _ (sym (c .before .before .before .before .before .before .before .before .shape4 .given .1)
+    ∙ c .before .before .before .before .before .before .before .before .before .before .shape-of .ensures)
+    (c .before .before .before .before .store .ensures))  -- returns-4
     (λ c. search needs)  -- same-length-7
-    (λ c. operated _ _ _ _ _ _ (sym (c .before .before .enum-told .given .1) ∙ c .before .before .before .before .shape-of .ensures) (c .rti .ensures))  -- returns-8
     (λ c. search needs)  -- same-length-8
-    (λ c. operated _ _ _ _ _ _ (sym (c .before .before .before .before .enum-told2 .given .1) ∙ c .before .before .before .before .before .before .shape-of .ensures)
-    (c .before .before .swi .ensures))  -- returns-9
+    (λ c. operated _ _ _ _ _ _ (sym (c .before .before .before .before .before .before .before .before .shape5 .given .1)
+    ∙ c .before .before .before .before .before .before .before .before .before .before .shape-of .ensures)
+    (c .before .before .before .before .store-word .ensures))  -- returns-5
     (λ c. search needs)  -- same-length-9
-    (λ c. operated _ _ _ _ _ _ (sym (c .before .before .before .before .enum-told3 .given .1) ∙ c .before .before .before .before .before .before .shape-of .ensures)
-    (c .before .before .wai .ensures)))  -- returns-10
+    (λ c. search needs)  -- same-length-10
+    (λ c. operated _ _ _ _ _ _ (sym (c .before .before .before .before .before .before .before .before .shape6 .given .1)
+    ∙ c .before .before .before .before .before .before .before .before .before .before .shape-of .ensures)
+    (c .before .before .before .before .modify .ensures))  -- returns-6
+    (λ c. search needs)  -- same-length-11
+    (λ c. search needs)  -- same-length-12
+    (λ c. operated _ _ _ _ _ _ (sym (c .before .before .before .before .before .before .before .before .shape7 .given .1)
+    ∙ c .before .before .before .before .before .before .before .before .before .before .shape-of .ensures)
+    (c .before .before .before .before .push-of .ensures))  -- returns-7
+    (λ c. search needs)  -- same-length-13
+    (λ c. search needs)  -- same-length-14
+    (λ c. operated _ _ _ _ _ _ (sym (c .before .before .before .enum-told .given .1) ∙ c .before .before .before .before .before .shape-of .ensures) (c .rti .ensures))  -- returns-8
+    (λ c. search needs)  -- same-length-15
+    (λ c. search needs)  -- same-length-16
+    (λ c. operated _ _ _ _ _ _ (sym (c .before .before .before .before .before .before .before .enum-told2 .given .1)
+    ∙ c .before .before .before .before .before .before .before .before .before .shape-of .ensures)
+    (c .before .before .before .before .swi .ensures))  -- returns-9
+    (λ c. search needs)  -- same-length-17
+    (λ c. search needs)  -- same-length-18
+    (λ c. operated _ _ _ _ _ _ (sym (c .before .before .before .before .before .before .before .enum-told3 .given .1)
+    ∙ c .before .before .before .before .before .before .before .before .before .shape-of .ensures)
+    (c .before .before .before .before .wai .ensures)))  -- returns-10

@@ -13,5 +13,6 @@ push-spec =
     (λ c κs. search needs)  -- minus-requires
     (λ c κs. search needs)  -- with-sp-requires
     (λ c. search needs)  -- same-length
-    (λ c. after _ _ _ _ (by-write _ _ _ _ (c .before .before .before .before .write .ensures .0) (c .before .before .before .before .write .ensures .1))
+    (λ c. search needs)  -- same-length-2
+    (λ c. after _ _ _ _ (by-write _ _ _ _ (c .before .before .before .before .before .before .write .ensures .0) (c .before .before .before .before .before .before .write .ensures .1))
     (ends _ _ _ (rw (c .with-sp .ensures, c .before .minus .ensures)))))  -- returns

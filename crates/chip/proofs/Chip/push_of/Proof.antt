@@ -14,5 +14,6 @@ push-of-spec =
     (λ c κs. search needs)  -- push-word-requires
     (λ c κs. search needs)  -- pushed-requires
     (λ c. search needs)  -- same-length
-    (λ c. after _ _ _ _ (rw (c .before .before .before .before .before .before .word .ensures) at (c .before .before .before .before .push-word .ensures))
+    (λ c. search needs)  -- same-length-2
+    (λ c. after _ _ _ _ (rw (c .before .before .before .before .before .before .before .before .before .word .ensures) at (c .before .before .before .before .before .before .push-word .ensures))
     (ends _ _ _ (sym (c .pushed .ensures)))))  -- returns

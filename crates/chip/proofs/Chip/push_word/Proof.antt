@@ -14,6 +14,8 @@ push-word-spec =
     (λ c κs. search needs)  -- upper-requires
     (λ c κs. search needs)  -- push-requires-2
     (λ c. search needs)  -- same-length
+    (λ c. search needs)  -- same-length-2
     (λ c. after _ _ _ _
-    (rw (c .before .before .before .before .before .before .before .before .before .lower .ensures) at (c .before .before .before .before .before .before .before .push .ensures))
-    (rw (c .before .before .before .before .upper .ensures) at (c .before .before .push2 .ensures))))  -- returns
+    (rw (c .before .before .before .before .before .before .before .before .before .before .before .before .before .before .before .lower .ensures) at
+    (c .before .before .before .before .before .before .before .before .before .before .before .before .push .ensures))
+    (rw (c .before .before .before .before .before .before .before .upper .ensures) at (c .before .before .before .before .push2 .ensures))))  -- returns

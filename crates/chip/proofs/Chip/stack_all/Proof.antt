@@ -16,16 +16,16 @@ stack-all-spec =
     (λ c κs. search needs)  -- push-requires-2
     (λ c κs. search needs)  -- to-byte-requires
     (λ c κs. search needs)  -- push-requires-3
-    (λ c.
-    let b = c .before .before .before .before .before .before .before .before .before .before in
-    c .before .before .push3 .kept .1 .1 .0
-    ∙ c .before .before .before .before .before .before .before .push2 .kept .1 .1 .0
-    ∙ b .before .push .kept .1 .1 .0
-    ∙ b .before .before .before .before .before .push-word2 .kept .1 .1 .0
-    ∙ b .before .before .before .before .before .before .before .before .before .push-word .kept .1 .1 .0)  -- same-length
-    (λ c. after _ _ _ _
-    (c .before .before .before .before .before .before .before .before .before .before .before .before .before .before .before .before .before .before .before .push-word .ensures)
-    (after _ _ _ _ (c .before .before .before .before .before .before .before .before .before .before .before .before .before .before .before .push-word2 .ensures)
-    (after _ _ _ _ (c .before .before .before .before .before .before .before .before .before .before .before .push .ensures)
-    (after _ _ _ _ (c .before .before .before .before .before .before .before .push2 .ensures)
-    (rw (c .before .before .before .before .to-byte .ensures) at (c .before .before .push3 .ensures)))))))  -- returns
+    (λ c. let p = c .before .before .before .before .before .before .before .before .before .before .before .before in
+    let w = p .before .before .before .before .before .before .before .before .before .before .before .before .before .before in
+    c .before .before .before .before .push3 .kept .1 .1 .0 ∙ p .push2 .kept .1 .1 .0 ∙ p .before .before .before .before .before .before .before .push .kept .1 .1 .0 ∙ w .push-word2 .kept .1 .1 .0
+    ∙ w .before .before .before .before .before .before .before .push-word .kept .1 .1 .0)  -- same-length
+    (λ c. let p = c .before .before .before .before .before .before .before .before .before .before .before .before in
+    let w = p .before .before .before .before .before .before .before .before .before .before .before .before .before .before in
+    c .before .before .before .before .push3 .kept .1 .1 .1 .0 ∙ p .push2 .kept .1 .1 .1 .0 ∙ p .before .before .before .before .before .before .before .push .kept .1 .1 .1 .0
+    ∙ w .push-word2 .kept .1 .1 .1 .0 ∙ w .before .before .before .before .before .before .before .push-word .kept .1 .1 .1 .0)  -- same-length-2
+    (λ c. let p = c .before .before .before .before .before .before .before .before .before .before .before .before in
+    let w = p .before .before .before .before .before .before .before .before .before .before .before .before .before .before in
+    after _ _ _ _ (w .before .before .before .before .before .before .before .push-word .ensures) (after _ _ _ _ (w .push-word2 .ensures) (after _ _ _ _
+    (p .before .before .before .before .before .before .before .push .ensures)
+    (after _ _ _ _ (p .push2 .ensures) (rw (c .before .before .before .before .before .before .before .to-byte .ensures) at (c .before .before .before .before .push3 .ensures)))))))  -- returns

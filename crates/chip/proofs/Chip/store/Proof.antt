@@ -15,7 +15,10 @@ store-spec =
     (λ c κs. search needs)  -- write-requires
     (λ c κs. search needs)  -- stored-requires
     (λ c. search needs)  -- same-length
+    (λ c. search needs)  -- same-length-2
     (λ c. after _ _ _ _
-    (by-write _ _ _ _ (rw (c .before .before .before .before .before .address .ensures, c .before .before .before .before .byte .ensures) at (c .before .before .before .write .ensures .0))
-    (rw (c .before .before .before .before .before .address .ensures, c .before .before .before .before .byte .ensures) at (c .before .before .before .write .ensures .1)))
+    (by-write _ _ _ _ (rw (c .before .before .before .before .before .before .before .address .ensures, c .before .before .before .before .before .before .byte .ensures) at
+    (c .before .before .before .before .before .write .ensures .0))
+    (rw (c .before .before .before .before .before .before .before .address .ensures, c .before .before .before .before .before .before .byte .ensures) at
+    (c .before .before .before .before .before .write .ensures .1)))
     (ends _ _ _ (sym (c .stored .ensures)))))  -- returns

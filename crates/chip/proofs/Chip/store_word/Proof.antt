@@ -14,4 +14,6 @@ store-word-spec =
     (λ c κs. search needs)  -- write-word-requires
     (λ c κs. search needs)  -- stored-word-requires
     (λ c. search needs)  -- same-length
-    (λ c. after _ _ _ _ (rw (c .before .before .before .before .stored .ensures) at (c .before .before .before .write-word .ensures)) (ends _ _ _ (sym (c .stored-word .ensures)))))  -- returns
+    (λ c. search needs)  -- same-length-2
+    (λ c. after _ _ _ _ (rw (c .before .before .before .before .before .before .stored .ensures) at (c .before .before .before .before .before .write-word .ensures)) (ends _ _ _ (sym
+    (c .stored-word .ensures)))))  -- returns

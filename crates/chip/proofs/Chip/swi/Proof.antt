@@ -13,4 +13,6 @@ swi-spec =
     (λ c κs. search needs)  -- address-of-requires
     (λ c κs. search needs)  -- vectored-requires
     (λ c. search needs)  -- same-length
-    (λ c. after _ _ _ _ (c .before .before .before .before .before .stack-all .ensures) (rw (c .before .before .address-of .ensures) at (c .vectored .ensures))))  -- returns
+    (λ c. search needs)  -- same-length-2
+    (λ c. after _ _ _ _ (c .before .before .before .before .before .before .before .before .stack-all .ensures) (rw (c .before .before .before .address-of .ensures) at
+    (c .vectored .ensures))))  -- returns

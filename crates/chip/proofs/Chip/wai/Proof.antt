@@ -13,4 +13,5 @@ wai-spec =
     (λ c κs. search needs)  -- stack-all-requires
     (λ c κs. search needs)  -- with-waiting-requires
     (λ c. search needs)  -- same-length
-    (λ c. after _ _ _ _ (c .before .before .before .before .stack-all .ensures) (ends _ _ _ (sym (c .with-waiting .ensures)))))  -- returns
+    (λ c. search needs)  -- same-length-2
+    (λ c. after _ _ _ _ (c .before .before .before .before .before .before .stack-all .ensures) (ends _ _ _ (sym (c .with-waiting .ensures)))))  -- returns
