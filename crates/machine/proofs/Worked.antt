@@ -32,7 +32,7 @@ use Rattle.machine.proofs.Reset.{vector-read}
 
 -- a machine after reset, all memory writable; the image's bytes past its end are 0
 abbrev start : Machine
-start = resetOf (memories []) (cold 65536)
+start = resetOf (memories [] []) (cold 65536)
 
 -- what is told of the step that a look says; nothing where it says that there is none
 abbrev told : (Stepped → List ℕ) → Look → Memories → Machine → List ℕ
@@ -42,7 +42,7 @@ told f Undefined memory m = []
 -- one step of the code at $0004 with the byte of the codes, A, B and X given
 abbrev stepped : (Stepped → List ℕ) → ℕ → ℕ → ℕ → ℕ → List ℕ → List ℕ
 stepped f before a b x code =
-    let memory = memories (0 ∷ 0 ∷ 0 ∷ 0 ∷ code) in
+    let memory = memories (0 ∷ 0 ∷ 0 ∷ 0 ∷ code) [] in
     let m = onChip start (record { a = a; b = b; x = x; sp = 0; pc = 4; codes = codesOf before; waiting = false }) (start .chip .bus) in
     told f (lookOf memory m) memory m
 
@@ -84,7 +84,7 @@ stored m = m .chip .bus .serial .received ∷ trcsOf (m .chip .bus .serial) ∷ 
 abbrev entered : Bool → List ℕ
 entered waiting =
     let s =
-    enteredOf Irq1 (memories (from (λ (at : ℕ). 0) 0 0x88))
+    enteredOf Irq1 (memories (from (λ (at : ℕ). 0) 0 0x88) [])
     (onChip start (record { a = 0x0A; b = 0x0B; x = 0x1234; sp = 0x87; pc = 0x5678; codes = codesOf 0xC5; waiting = waiting }) (start .chip .bus)) in
     s .cycles ∷ registers s .pc ∷ registers s .sp ∷ codes s ∷ drop 0x81 (s .memory .image)
 
@@ -120,9 +120,9 @@ table =
     ∷ (counted 0xFFFF 0x0100 3 is 0x0002 ∷ 0x00 ∷ [])  -- FFFF after 3 cycles is 0002, TOF not set
     ∷ (counted 0x0010 0x0010 2 is 0x0012 ∷ 0x00 ∷ [])  -- Counter and compare both 0010, 2 cycles: no OCF
     ∷ (stepped (one (λ s. s .machine .chip .bus .timer .counter)) clear 0 0 0 (0x97 ∷ 0x09 ∷ []) is 0xFFFB ∷ [])  -- STAA $09: counter FFFB afterwards
-    ∷ (stored (appliedOf (Received 0x42 true) (memories []) (appliedOf (Received 0x41 true) (memories []) receiving)) is 0x41 ∷ 0xE8 ∷ [])  -- bytes 41, 42: stored 41, TRCS E8
-    ∷ (stored (appliedOf (Received 0x41 false) (memories []) receiving) is 0x00 ∷ 0x68 ∷ [])  -- a bad stop alone: 68
-    ∷ (readOf (memories []) 0x03 (start .chip .bus) .value ∷ [] is 0x5A ∷ [])  -- Power-on read of $03: 5A
+    ∷ (stored (appliedOf (Received 0x42 true) (memories [] []) (appliedOf (Received 0x41 true) (memories [] []) receiving)) is 0x41 ∷ 0xE8 ∷ [])  -- bytes 41, 42: stored 41, TRCS E8
+    ∷ (stored (appliedOf (Received 0x41 false) (memories [] []) receiving) is 0x00 ∷ 0x68 ∷ [])  -- a bad stop alone: 68
+    ∷ (readOf (memories [] []) 0x03 (start .chip .bus) .value ∷ [] is 0x5A ∷ [])  -- Power-on read of $03: 5A
     ∷ (entered false is 12 ∷ 0 ∷ 0x80 ∷ 0xD5 ∷ 0xC5 ∷ 0x0B ∷ 0x0A ∷ 0x12 ∷ 0x34 ∷ 0x56 ∷ 0x78 ∷ [])  -- stacked downwards: PC low, PC high, X low, X high, A, B, codes
     ∷ (entered true is 4 ∷ 0 ∷ 0x87 ∷ 0xD5 ∷ 0 ∷ 0 ∷ 0 ∷ 0 ∷ 0 ∷ 0 ∷ 0 ∷ [])  -- out of a wait nothing is stacked
     ∷ []

@@ -1,7 +1,7 @@
 -- The machine: its ranges, cycles passing, reset and power-on.
 use Prim.Native.Nat.{ℕ, _≤_}
 use mathlib.Core.Bool.{Bool, true, false, cond}
-use mathlib.Core.List.{List}
+use mathlib.Core.List.{List, []}
 use mathlib.Core.Path.{_≡_}
 use lib.Dec.{leb, eqb}
 use lib.ListN.{length}
@@ -91,9 +91,9 @@ cold r = record {
   nmi = false;
 }
 
--- "Power-on takes an image and R and gives a machine, or reply 1 or 2": 1 is WrongImage, 2 WrongStart
+-- "Power-on takes an image and R and gives a machine, or reply 1 or 2": 1 is WrongImage, 2 WrongStart. It takes no area, and reads none.
 unfoldable pub powerOnOf : List ℕ → ℕ → Power
 powerOnOf image r =
     cond (eqb (length image) 65536)
-    (cond (leb r 65536) (On (resetOf (memories image) (cold r))) WrongStart)
+    (cond (leb r 65536) (On (resetOf (memories image []) (cold r))) WrongStart)
     WrongImage

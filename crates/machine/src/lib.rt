@@ -130,7 +130,7 @@ pub fn power_on(image: &[u8], r: u32) -> Power
     if r > 65536 {
         return Power::WrongStart;
     }
-    Power::On(cold_machine(r).reset(image))
+    Power::On(cold_machine(r).reset(image, &image[..0]))
 }
 
 fn vector_for(cause: Cause) -> Vector
@@ -203,12 +203,13 @@ impl Machine {
         self.with_bus(self.chip.bus.send())
     }
 
-    pub fn reset(self, image: &[u8]) -> Machine
-        ensures { λ r. ⌜ r ≡ resetOf (memories (now (image .entry))) self ⌝ }
+    pub fn reset(self, image: &[u8], area: &[u8]) -> Machine
+        ensures { λ r. ⌜ r ≡ resetOf (memories (now (image .entry)) (now (area .entry))) self ⌝ }
     {
         let w = chip::read_word(
             self.chip.bus.reset(),
             image,
+            area,
             tables::address_of(Vector::Reset),
         );
         let bus = w.next;
@@ -273,8 +274,8 @@ impl Machine {
     }
 
     // A session's event.
-    pub fn apply(mut self, event: Event, image: &[u8]) -> Machine
-        ensures { λ r. ⌜ r ≡ appliedOf event (memories (now (image .entry))) self ⌝ }
+    pub fn apply(mut self, event: Event, image: &[u8], area: &[u8]) -> Machine
+        ensures { λ r. ⌜ r ≡ appliedOf event (memories (now (image .entry)) (now (area .entry))) self ⌝ }
     {
         match event {
             Event::Port1(v) => self.with_bus(self.chip.bus.port1_pins(v)),
@@ -289,7 +290,7 @@ impl Machine {
             }
             Event::Received(v, stop) => self.with_bus(self.chip.bus.receive(v, stop)),
             Event::Idle => self.with_bus(self.chip.bus.idle()),
-            Event::Reset => self.reset(image),
+            Event::Reset => self.reset(image, area),
         }
     }
 
@@ -304,12 +305,13 @@ impl Machine {
     }
 
     // An interrupt is entered, and its cycles pass.
-    pub fn enter(self, cause: Cause, image: &mut [u8]) -> Moved
-        ensures { λ r. ⌜ moved r (memories (now (image .exit))) ≡ enteredOf cause (memories (now (image .entry))) self ⌝ }
+    pub fn enter(self, cause: Cause, image: &mut [u8], area: &mut [u8]) -> Moved
+        ensures { λ r. ⌜ moved r (memories (now (image .exit)) (now (area .exit)))
+            ≡ enteredOf cause (memories (now (image .entry)) (now (area .entry))) self ⌝ }
     {
         let k = self.entry_cycles();
         let chip = self.chip
-            .enter(tables::address_of(vector_for(cause)), image);
+            .enter(tables::address_of(vector_for(cause)), image, area);
         let m = Machine {
             chip: chip,
             irq1: self.irq1,
@@ -319,22 +321,22 @@ impl Machine {
     }
 
     // The byte that the opcode's fetch is to read.
-    fn opcode(self, image: &[u8]) -> u8
-        ensures { λ r. ⌜ r ≡ readOf (memories (now (image .entry))) (self .chip .registers .pc) (self .chip .bus) .value ⌝ }
+    fn opcode(self, image: &[u8], area: &[u8]) -> u8
+        ensures { λ r. ⌜ r ≡ readOf (memories (now (image .entry)) (now (area .entry))) (self .chip .registers .pc) (self .chip .bus) .value ⌝ }
     {
         let pc = self.chip.registers.pc;
         if pc < 32 {
-            let f = self.chip.bus.read(image, pc);
+            let f = self.chip.bus.read(image, area, pc);
             return f.value;
         }
-        bus::peek(image, pc)
+        bus::held(image, area, self.chip.bus.rame, pc)
     }
 
     // What stands at PC, with no effect on the machine.
-    pub fn look(self, image: &[u8]) -> Look
-        ensures { λ r. ⌜ r ≡ lookOf (memories (now (image .entry))) self ⌝ }
+    pub fn look(self, image: &[u8], area: &[u8]) -> Look
+        ensures { λ r. ⌜ r ≡ lookOf (memories (now (image .entry)) (now (area .entry))) self ⌝ }
     {
-        let decoded = opcodes::decode(self.opcode(image));
+        let decoded = opcodes::decode(self.opcode(image, area));
         match decoded {
             Decoded::Undefined => Look::Undefined,
             Decoded::Defined(i) => Look::Runs(i),
@@ -342,10 +344,10 @@ impl Machine {
     }
 
     // An instruction, and its cycles.
-    pub fn step(self, i: Instruction, image: &mut [u8]) -> Moved
-        ensures { λ r. ⌜ moved r (memories (now (image .exit))) ≡ stepOf i (memories (now (image .entry))) self ⌝ }
+    pub fn step(self, i: Instruction, image: &mut [u8], area: &mut [u8]) -> Moved
+        ensures { λ r. ⌜ moved r (memories (now (image .exit)) (now (area .exit))) ≡ stepOf i (memories (now (image .entry)) (now (area .entry))) self ⌝ }
     {
-        let chip = self.chip.execute(i, image);
+        let chip = self.chip.execute(i, image, area);
         let m = Machine {
             chip: chip,
             irq1: self.irq1,

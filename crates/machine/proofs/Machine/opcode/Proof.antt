@@ -9,5 +9,5 @@ opcode-spec =
     (tie.spec
     (λ c κs. search needs)  -- read-requires
     (λ c. rw (c .read .ensures))  -- returns
-    (λ c κs. search needs)  -- peek-requires
-    (λ c. rw (plain-read _ _ _ (c .before .if1 .left)) (c .peek .ensures)))  -- returns-2
+    (λ c κs. search needs)  -- held-requires
+    (λ c. rw (plain-read _ _ _ (c .before .if1 .left)) (c .held .ensures)))  -- returns-2
