@@ -29,12 +29,12 @@ textOf a = cond (stops (a .reply .number)) (stopText a) (refusal (a .reply))
 
 -- a line tells nothing of what was lent
 abbrev pub nothing : Lent
-nothing = lent [] []
+nothing = lent [] [] []
 
--- "output room is 256"; the results are the leaping run's, which are the single run's
+-- "Unloaded bytes are 0", those of the area too; "output room is 256"; the results are the leaping run's, which are the single run's
 unfoldable pub poweredText : List ℕ → List ℕ → ℕ → Given Machine → List ℕ
 poweredText image session n (replies k) = refusedText k none
-poweredText image session n (gives m) = textOf (answerOf (terms session n) m (lent image (replicate 256 0)))
+poweredText image session n (gives m) = textOf (answerOf (terms session n) m (lent image (replicate 128 0) (replicate 256 0)))
 
 -- "Unloaded bytes are 0"
 unfoldable pub unloaded : List ℕ

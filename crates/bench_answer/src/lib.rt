@@ -45,8 +45,9 @@ fn powered(session: &[u8], n: u32, r: u32, image: &mut [u8]) -> Line
         Power::WrongImage => lines::refused(1),
         Power::WrongStart => lines::refused(2),
         Power::On(m) => {
+            let mut area = [0u8; 128];
             let mut output = [0u8; 256];
-            let leapt = cabinet::run_leaping(image, m, session, n, &mut output);
+            let leapt = cabinet::run_leaping(image, &mut area, m, session, n, &mut output);
             report(leapt.ran)
         }
     }

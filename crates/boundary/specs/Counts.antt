@@ -35,8 +35,8 @@ Fits s by =
 -- where the log is asked for or not: the run stops with 11 here
 abbrev pub Refuses : Bool → State → List ℕ → Type 0
 Refuses logs s log =
-    (since : Cycles) (image output : List ℕ)
-    → let w = worldOf s (lending image output log) in actOf (record { log = logs; since = since }) w ≡ done (endedOf LogFull w)
+    (since : Cycles) (image area output : List ℕ)
+    → let w = worldOf s (lending image area output log) in actOf (record { log = logs; since = since }) w ≡ done (endedOf LogFull w)
 
 -- .. there is room for the row of any interrupt that is to be accepted
 abbrev pub Accepts : Bool → State → List ℕ → Type 0

@@ -10,31 +10,32 @@ use Rattle.boundary.specs.declared.Stop.{Stop}
 use Rattle.boundary.specs.declared.Stop.the-variants.{Limit, Undefined, Full, LogFull}
 use Rattle.boundary.specs.declared.Watch.{Watch}
 
--- what a call lends: the image, the output, and 02's "second lent buffer", the wake log
+-- what a call lends: the image, 02's "second lent area", the output, and 02's "second lent buffer", the wake log
 pub record Lent : Type 0 where
   pub image : List ℕ
+  pub area : List ℕ
   pub output : List ℕ
   pub log : List ℕ
 
-abbrev pub lending : List ℕ → List ℕ → List ℕ → Lent
-lending image output log = record { image = image; output = output; log = log }
+abbrev pub lending : List ℕ → List ℕ → List ℕ → List ℕ → Lent
+lending image area output log = record { image = image; area = area; output = output; log = log }
 
 -- what a run without a log is lent
-abbrev pub lent : List ℕ → List ℕ → Lent
-lent image output = lending image output []
+abbrev pub lent : List ℕ → List ℕ → List ℕ → Lent
+lent image area output = lending image area output []
 
 -- the memories among it that accesses see, and others in their place
 abbrev pub memoriesIn : Lent → Memories
-memoriesIn l = memories (l .image)
+memoriesIn l = memories (l .image) (l .area)
 
 abbrev pub withMemories : Lent → Memories → Lent
-withMemories l memory = lending (memory .image) (l .output) (l .log)
+withMemories l memory = lending (memory .image) (memory .area) (l .output) (l .log)
 
 abbrev pub withOutput : Lent → List ℕ → Lent
-withOutput l output = lending (l .image) output (l .log)
+withOutput l output = lending (l .image) (l .area) output (l .log)
 
 abbrev pub withLog : Lent → List ℕ → Lent
-withLog l log = lending (l .image) (l .output) log
+withLog l log = lending (l .image) (l .area) (l .output) log
 
 -- what a run is asked: its session, its limit N, and what is watched
 pub record Terms : Type 0 where

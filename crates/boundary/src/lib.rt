@@ -125,12 +125,13 @@ impl State {
     }
 
     // The record at its place is applied.
-    fn take(mut self, session: &[u8], image: &[u8]) -> State
+    fn take(mut self, session: &[u8], image: &[u8], area: &[u8]) -> State
         requires { ⌜ (self .place < length (now session)) × (self .used .0 ≤ self .place) ⌝ }
-        ensures { λ r. ⌜ r ≡ recordTaken (now (session .entry)) (memories (now (image .entry))) self ⌝ }
+        ensures { λ r. ⌜ r ≡ recordTaken (now (session .entry)) (memories (now (image .entry)) (now (area .entry))) self ⌝ }
     {
         let at = self.place;
-        let m = self.machine.apply(session::event_at(session, at), image);
+        let m = self.machine
+            .apply(session::event_at(session, at), image, area);
         self.machine = m;
         self.place = session::next_at(session, at);
         let used = Records(self.used.0 + 1);
@@ -140,13 +141,13 @@ impl State {
     }
 
     // Step 2.
-    fn apply_records(self, session: &[u8], image: &[u8]) -> State
+    fn apply_records(self, session: &[u8], image: &[u8], area: &[u8]) -> State
         requires { ⌜ self .used .0 ≤ self .place ⌝ }
-        ensures { λ r. ⌜ r ≡ recordsOf (now (session .entry)) (memories (now (image .entry))) self ⌝ }
+        ensures { λ r. ⌜ r ≡ recordsOf (now (session .entry)) (memories (now (image .entry)) (now (area .entry))) self ⌝ }
     {
         let mut s = self;
         while session::is_due(session, s.cycles, s.place) {
-            s = s.take(session, image);
+            s = s.take(session, image, area);
         }
         s
     }
@@ -165,12 +166,12 @@ impl State {
     }
 
     // An interrupt is entered.
-    fn enter(self, cause: Cause, image: &mut [u8]) -> State
+    fn enter(self, cause: Cause, image: &mut [u8], area: &mut [u8]) -> State
         requires { ⌜ Ready self ⌝ }
-        ensures { λ r. ⌜ ((l : Lent) → worldOf r (withMemories l (memories (now (image .exit))))
-            ≡ enteredWorld cause (worldOf self (withMemories l (memories (now (image .entry)))))) ⌝ }
+        ensures { λ r. ⌜ ((l : Lent) → worldOf r (withMemories l (memories (now (image .exit)) (now (area .exit))))
+            ≡ enteredWorld cause (worldOf self (withMemories l (memories (now (image .entry)) (now (area .entry)))))) ⌝ }
     {
-        let e = self.machine.enter(cause, image);
+        let e = self.machine.enter(cause, image, area);
         let cycles = e.cycles;
         let by = Grown {
             cycles: cycles,
@@ -220,14 +221,21 @@ impl State {
     }
 
     // Step 4, where there is room.
-    fn accept(self, watch: Watch, cause: Cause, image: &mut [u8], log: &mut [u8]) -> Turned
+    fn accept(
+        self,
+        watch: Watch,
+        cause: Cause,
+        image: &mut [u8],
+        area: &mut [u8],
+        log: &mut [u8],
+    ) -> Turned
         requires { ⌜ Ready self × (lacksRow watch self (now log) ≡ false) ⌝ }
-        ensures { λ r. ⌜ ((o : List ℕ) → turned r (lending (now (image .exit)) o (now (log .exit)))
-            ≡ onPending watch (Due cause) (worldOf self (lending (now (image .entry)) o (now (log .entry))))) ⌝ }
+        ensures { λ r. ⌜ ((o : List ℕ) → turned r (lending (now (image .exit)) (now (area .exit)) o (now (log .exit)))
+            ≡ onPending watch (Due cause) (worldOf self (lending (now (image .entry)) (now (area .entry)) o (now (log .entry))))) ⌝ }
     {
         self.log_entry(watch, cause, log);
         Turned {
-            state: self.enter(cause, image),
+            state: self.enter(cause, image, area),
             progress: Progress::Going,
         }
     }
@@ -249,19 +257,19 @@ impl State {
     }
 
     // Step 6.
-    fn step(self, image: &mut [u8]) -> Turned
+    fn step(self, image: &mut [u8], area: &mut [u8]) -> Turned
         requires { ⌜ Ready self ⌝ }
-        ensures { λ r. ⌜ ((l : Lent) → turned r (withMemories l (memories (now (image .exit))))
-            ≡ executedOf (lookOf (memories (now (image .entry))) (self .machine)) (worldOf self (withMemories l (memories (now (image .entry)))))) ⌝ }
+        ensures { λ r. ⌜ ((l : Lent) → turned r (withMemories l (memories (now (image .exit)) (now (area .exit))))
+            ≡ executedOf (lookOf (memories (now (image .entry)) (now (area .entry))) (self .machine)) (worldOf self (withMemories l (memories (now (image .entry)) (now (area .entry)))))) ⌝ }
     {
-        let look = self.machine.look(image);
+        let look = self.machine.look(image, area);
         match look {
             Look::Undefined => Turned {
                 state: self,
                 progress: Progress::Stopped(Stop::Undefined),
             },
             Look::Runs(i) => {
-                let e = self.machine.step(i, image);
+                let e = self.machine.step(i, image, area);
                 let cycles = e.cycles;
                 let by = Grown {
                     cycles: cycles,
@@ -279,10 +287,17 @@ impl State {
 
     // Steps 4 to 6, where there is room. What is watched comes in its parts, and the room is tested before: both keep every other boundary as cheap as
     // without a log.
-    fn act(self, logs: bool, since: Cycles, image: &mut [u8], log: &mut [u8]) -> Turned
+    fn act(
+        self,
+        logs: bool,
+        since: Cycles,
+        image: &mut [u8],
+        area: &mut [u8],
+        log: &mut [u8],
+    ) -> Turned
         requires { ⌜ Ready self × Accepts logs self (now log) ⌝ }
-        ensures { λ r. ⌜ ((o : List ℕ) → turned r (lending (now (image .exit)) o (now (log .exit)))
-            ≡ actOf (record { log = logs; since = since }) (worldOf self (lending (now (image .entry)) o (now (log .entry))))) ⌝ }
+        ensures { λ r. ⌜ ((o : List ℕ) → turned r (lending (now (image .exit)) (now (area .exit)) o (now (log .exit)))
+            ≡ actOf (record { log = logs; since = since }) (worldOf self (lending (now (image .entry)) (now (area .entry)) o (now (log .entry))))) ⌝ }
     {
         let p = self.machine.pending();
         match p {
@@ -291,7 +306,7 @@ impl State {
                     log: logs,
                     since: since,
                 };
-                self.accept(watch, cause, image, log)
+                self.accept(watch, cause, image, area, log)
             }
             Pending::Nothing => {
                 if self.machine.chip.registers.idles() {
@@ -300,7 +315,7 @@ impl State {
                         progress: Progress::Going,
                     };
                 }
-                self.step(image)
+                self.step(image, area)
             }
         }
     }
@@ -311,13 +326,14 @@ impl State {
         logs: bool,
         since: Cycles,
         image: &mut [u8],
+        area: &mut [u8],
         output: &mut [u8],
         log: &mut [u8],
     ) -> Turned
         requires { ⌜ Ready self ⌝ }
-        ensures { λ r. ⌜ turned r (lending (now (image .exit)) (now (output .exit)) (now (log .exit)))
+        ensures { λ r. ⌜ turned r (lending (now (image .exit)) (now (area .exit)) (now (output .exit)) (now (log .exit)))
             ≡ sendOf (record { log = logs; since = since })
-            (worldOf self (lending (now (image .entry)) (now (output .entry)) (now (log .entry)))) ⌝ }
+            (worldOf self (lending (now (image .entry)) (now (area .entry)) (now (output .entry)) (now (log .entry)))) ⌝ }
     {
         if self.machine.chip.bus.serial.wants_to_send() {
             let at = self.sent.0;
@@ -335,7 +351,7 @@ impl State {
                     progress: Progress::Stopped(Stop::LogFull),
                 };
             }
-            return sent.act(logs, since, image, log);
+            return sent.act(logs, since, image, area, log);
         }
         let rested = self;
         if rested.lacks_row(logs, &log[..]) {
@@ -344,7 +360,7 @@ impl State {
                 progress: Progress::Stopped(Stop::LogFull),
             };
         }
-        rested.act(logs, since, image, log)
+        rested.act(logs, since, image, area, log)
     }
 
     // One boundary.
@@ -354,13 +370,14 @@ impl State {
         n: u32,
         watch: Watch,
         image: &mut [u8],
+        area: &mut [u8],
         output: &mut [u8],
         log: &mut [u8],
     ) -> Turned
         requires { ⌜ Fine self × (n ≤ 1000000000) ⌝ }
-        ensures { λ r. ⌜ turned r (lending (now (image .exit)) (now (output .exit)) (now (log .exit)))
+        ensures { λ r. ⌜ turned r (lending (now (image .exit)) (now (area .exit)) (now (output .exit)) (now (log .exit)))
             ≡ boundaryOf (watching (now (session .entry)) n watch)
-            (worldOf self (lending (now (image .entry)) (now (output .entry)) (now (log .entry)))) ⌝ }
+            (worldOf self (lending (now (image .entry)) (now (area .entry)) (now (output .entry)) (now (log .entry)))) ⌝ }
     {
         if n <= self.cycles.0 {
             return Turned {
@@ -369,7 +386,7 @@ impl State {
             };
         }
         let since = watch.since;
-        self.apply_records(session, image)
-            .send(watch.log, since, image, output, log)
+        self.apply_records(session, image, area)
+            .send(watch.log, since, image, area, output, log)
     }
 }

@@ -16,13 +16,14 @@ use Rattle.cabinet.specs.declared.Ending.{Ending}
 use Rattle.cabinet.specs.declared.Admission.{Admission}
 use Rattle.cabinet.specs.declared.Admission.the-variants.{Admitted, Refused}
 
--- "1, 2, 3 are tested in that order, then the session from the front": the reply that refuses a run, where one does
+-- "1, 2, 3 are tested in that order, then the session from the front", and 12 "straight after 1": the reply that refuses a run, where one does
 unfoldable pub refusalOf : Terms → Machine → Lent → Option Told
 refusalOf t m l =
     cond (not (eqb (length (l .image)) 65536)) (some (told 1 none))
+    (cond (not (eqb (length (l .area)) 128)) (some (told 12 none))
     (cond (not (rangesOf m)) (some (told 2 none))
     (cond (ltb 1000000000 (t .limit)) (some (told 3 none))
-    (toldCheck (checkOf (t .session)))))
+    (toldCheck (checkOf (t .session))))))
 
 -- what a run stops with: 0, 8, 9 or 11
 abbrev pub toldStop : Stop → Told
@@ -36,7 +37,7 @@ pub record End : Type 0 where
 abbrev pub endAt : Told → World → End
 endAt r w = record { reply = r; world = w }
 
--- "Replies 1 to 7 have all counts zero", with "image, output, machine unchanged": the start; else where the run stops
+-- "Replies 1 to 7 have all counts zero", with "image, output, machine unchanged", and 12 leaves "what 1 leaves": the start; else where the run stops
 abbrev pub onRefusal : Option Told → World → Ended → End
 onRefusal (some r) start e = endAt r start
 onRefusal none start e = endAt (toldStop (e .stop)) (e .world)
@@ -44,7 +45,7 @@ onRefusal none start e = endAt (toldStop (e .stop)) (e .world)
 unfoldable pub endOf : Terms → Machine → Lent → End
 endOf t m l = onRefusal (refusalOf t m l) (startWorld m l) (ranOf t m l)
 
--- what both runs answer: "the reply, the machine, all counts and every byte of image and output", and of 02's log
+-- what both runs answer: "the reply, the machine, all counts and every byte of image and output", and of 02's area and log
 pub record Answer : Type 0 where
   pub reply : Told
   pub machine : Machine

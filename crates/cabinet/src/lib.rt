@@ -80,15 +80,18 @@ fn verdict(c: Checked) -> Admission
     }
 }
 
-// The tests of 1, 2 and 3, then the session from the front.
-fn admit(image: &[u8], m: Machine, session: &[u8], n: u32) -> Admission
+// The tests of 1, 12, 2 and 3, then the session from the front.
+fn admit(image: &[u8], area: &[u8], m: Machine, session: &[u8], n: u32) -> Admission
     ensures { λ r. ⌜ ((watch : Watch) (l : Lent) → toldAdmission r
-        ≡ refusalOf (watching (now (session .entry)) n watch) m (withMemories l (memories (now (image .entry))))) ⌝ }
+        ≡ refusalOf (watching (now (session .entry)) n watch) m (withMemories l (memories (now (image .entry)) (now (area .entry))))) ⌝ }
 {
     let wrong_machine = !m.in_ranges();
     let wrong_limit = n > 1000000000;
     if image.len() != 65536 {
         return Admission::Refused(Reply::WrongImage);
+    }
+    if area.len() != 128 {
+        return Admission::Refused(Reply::WrongArea);
     }
     if wrong_machine {
         return Admission::Refused(Reply::WrongMachine);
@@ -115,6 +118,7 @@ fn stopped(s: Stop) -> Reply
 fn end(
     leaping: bool,
     image: &mut [u8],
+    area: &mut [u8],
     m: Machine,
     session: &[u8],
     n: u32,
@@ -122,18 +126,18 @@ fn end(
     output: &mut [u8],
     log: &mut [u8],
 ) -> Ending
-    ensures { λ r. ⌜ endedWith r (lending (now (image .exit)) (now (output .exit)) (now (log .exit)))
-        ≡ endOf (watching (now (session .entry)) n watch) m (lending (now (image .entry)) (now (output .entry)) (now (log .entry))) ⌝ }
+    ensures { λ r. ⌜ endedWith r (lending (now (image .exit)) (now (area .exit)) (now (output .exit)) (now (log .exit)))
+        ≡ endOf (watching (now (session .entry)) n watch) m (lending (now (image .entry)) (now (area .entry)) (now (output .entry)) (now (log .entry))) ⌝ }
 {
     let start = start(m);
-    let admission = admit(&image[..], m, session, n);
+    let admission = admit(&image[..], &area[..], m, session, n);
     match admission {
         Admission::Refused(reply) => Ending {
             reply: reply,
             state: start,
         },
         Admission::Admitted => {
-            let outcome = run::run(leaping, session, n, watch, image, output, log, start);
+            let outcome = run::run(leaping, session, n, watch, image, area, output, log, start);
             let stop = outcome.stop;
             let state = outcome.state;
             Ending {
@@ -179,6 +183,7 @@ pub fn power_on(image: &[u8], r: u32) -> Power
 pub fn watch_either(
     leaping: bool,
     image: &mut [u8],
+    area: &mut [u8],
     m: Machine,
     session: &[u8],
     n: u32,
@@ -186,12 +191,12 @@ pub fn watch_either(
     output: &mut [u8],
     log: &mut [u8],
 ) -> Leapt
-    ensures { λ r. ⌜ (answered (r .ran) (lending (now (image .exit)) (now (output .exit)) (now (log .exit)))
-        ≡ answerOf (watching (now (session .entry)) n watch) m (lending (now (image .entry)) (now (output .entry)) (now (log .entry))))
+    ensures { λ r. ⌜ (answered (r .ran) (lending (now (image .exit)) (now (area .exit)) (now (output .exit)) (now (log .exit)))
+        ≡ answerOf (watching (now (session .entry)) n watch) m (lending (now (image .entry)) (now (area .entry)) (now (output .entry)) (now (log .entry))))
         × (r .leaps .0
-        ≡ leapsOf (watching (now (session .entry)) n watch) m (lending (now (image .entry)) (now (output .entry)) (now (log .entry)))) ⌝ }
+        ≡ leapsOf (watching (now (session .entry)) n watch) m (lending (now (image .entry)) (now (area .entry)) (now (output .entry)) (now (log .entry)))) ⌝ }
 {
-    let e = end(leaping, image, m, session, n, watch, output, log);
+    let e = end(leaping, image, area, m, session, n, watch, output, log);
     let leaps = e.state.leaps.0;
     Leapt {
         ran: e.report(),
@@ -202,6 +207,7 @@ pub fn watch_either(
 // The single run, watched: 11 where the log has no room for a row.
 pub fn watch_single(
     image: &mut [u8],
+    area: &mut [u8],
     m: Machine,
     session: &[u8],
     n: u32,
@@ -209,16 +215,17 @@ pub fn watch_single(
     output: &mut [u8],
     log: &mut [u8],
 ) -> Ran
-    ensures { λ r. ⌜ answered r (lending (now (image .exit)) (now (output .exit)) (now (log .exit)))
-        ≡ answerOf (watching (now (session .entry)) n watch) m (lending (now (image .entry)) (now (output .entry)) (now (log .entry))) ⌝ }
+    ensures { λ r. ⌜ answered r (lending (now (image .exit)) (now (area .exit)) (now (output .exit)) (now (log .exit)))
+        ≡ answerOf (watching (now (session .entry)) n watch) m (lending (now (image .entry)) (now (area .entry)) (now (output .entry)) (now (log .entry))) ⌝ }
 {
-    let leapt = watch_either(false, image, m, session, n, watch, output, log);
+    let leapt = watch_either(false, image, area, m, session, n, watch, output, log);
     leapt.ran
 }
 
 // The leaping run, watched: the same answer, and how many leaps there were.
 pub fn watch_leaping(
     image: &mut [u8],
+    area: &mut [u8],
     m: Machine,
     session: &[u8],
     n: u32,
@@ -226,31 +233,33 @@ pub fn watch_leaping(
     output: &mut [u8],
     log: &mut [u8],
 ) -> Leapt
-    ensures { λ r. ⌜ (answered (r .ran) (lending (now (image .exit)) (now (output .exit)) (now (log .exit)))
-        ≡ answerOf (watching (now (session .entry)) n watch) m (lending (now (image .entry)) (now (output .entry)) (now (log .entry))))
+    ensures { λ r. ⌜ (answered (r .ran) (lending (now (image .exit)) (now (area .exit)) (now (output .exit)) (now (log .exit)))
+        ≡ answerOf (watching (now (session .entry)) n watch) m (lending (now (image .entry)) (now (area .entry)) (now (output .entry)) (now (log .entry))))
         × (r .leaps .0
-        ≡ leapsOf (watching (now (session .entry)) n watch) m (lending (now (image .entry)) (now (output .entry)) (now (log .entry)))) ⌝ }
+        ≡ leapsOf (watching (now (session .entry)) n watch) m (lending (now (image .entry)) (now (area .entry)) (now (output .entry)) (now (log .entry)))) ⌝ }
 {
-    watch_either(true, image, m, session, n, watch, output, log)
+    watch_either(true, image, area, m, session, n, watch, output, log)
 }
 
 // Either run with nothing watched: the same answer, and how many leaps there were or would have been.
 pub fn run_either(
     leaping: bool,
     image: &mut [u8],
+    area: &mut [u8],
     m: Machine,
     session: &[u8],
     n: u32,
     output: &mut [u8],
 ) -> Leapt
-    ensures { λ r. ⌜ (answered (r .ran) (lent (now (image .exit)) (now (output .exit)))
-        ≡ answerOf (terms (now (session .entry)) n) m (lent (now (image .entry)) (now (output .entry))))
-        × (r .leaps .0 ≡ leapsOf (terms (now (session .entry)) n) m (lent (now (image .entry)) (now (output .entry)))) ⌝ }
+    ensures { λ r. ⌜ (answered (r .ran) (lent (now (image .exit)) (now (area .exit)) (now (output .exit)))
+        ≡ answerOf (terms (now (session .entry)) n) m (lent (now (image .entry)) (now (area .entry)) (now (output .entry))))
+        × (r .leaps .0 ≡ leapsOf (terms (now (session .entry)) n) m (lent (now (image .entry)) (now (area .entry)) (now (output .entry)))) ⌝ }
 {
     let mut none = [0u8; 1];
     watch_either(
         leaping,
         image,
+        area,
         m,
         session,
         n,
@@ -261,21 +270,35 @@ pub fn run_either(
 }
 
 // The single run: each waiting cycle is a boundary of its own.
-pub fn run_single(image: &mut [u8], m: Machine, session: &[u8], n: u32, output: &mut [u8]) -> Ran
-    ensures { λ r. ⌜ answered r (lent (now (image .exit)) (now (output .exit)))
-        ≡ answerOf (terms (now (session .entry)) n) m (lent (now (image .entry)) (now (output .entry))) ⌝ }
+pub fn run_single(
+    image: &mut [u8],
+    area: &mut [u8],
+    m: Machine,
+    session: &[u8],
+    n: u32,
+    output: &mut [u8],
+) -> Ran
+    ensures { λ r. ⌜ answered r (lent (now (image .exit)) (now (area .exit)) (now (output .exit)))
+        ≡ answerOf (terms (now (session .entry)) n) m (lent (now (image .entry)) (now (area .entry)) (now (output .entry))) ⌝ }
 {
-    let leapt = run_either(false, image, m, session, n, output);
+    let leapt = run_either(false, image, area, m, session, n, output);
     leapt.ran
 }
 
 // The leaping run: the same answer, and how many leaps there were.
-pub fn run_leaping(image: &mut [u8], m: Machine, session: &[u8], n: u32, output: &mut [u8]) -> Leapt
-    ensures { λ r. ⌜ (answered (r .ran) (lent (now (image .exit)) (now (output .exit)))
-        ≡ answerOf (terms (now (session .entry)) n) m (lent (now (image .entry)) (now (output .entry))))
-        × (r .leaps .0 ≡ leapsOf (terms (now (session .entry)) n) m (lent (now (image .entry)) (now (output .entry)))) ⌝ }
+pub fn run_leaping(
+    image: &mut [u8],
+    area: &mut [u8],
+    m: Machine,
+    session: &[u8],
+    n: u32,
+    output: &mut [u8],
+) -> Leapt
+    ensures { λ r. ⌜ (answered (r .ran) (lent (now (image .exit)) (now (area .exit)) (now (output .exit)))
+        ≡ answerOf (terms (now (session .entry)) n) m (lent (now (image .entry)) (now (area .entry)) (now (output .entry))))
+        × (r .leaps .0 ≡ leapsOf (terms (now (session .entry)) n) m (lent (now (image .entry)) (now (area .entry)) (now (output .entry)))) ⌝ }
 {
-    run_either(true, image, m, session, n, output)
+    run_either(true, image, area, m, session, n, output)
 }
 
 // One opcode's operation, operand place, length and cycles, or that it is undefined.

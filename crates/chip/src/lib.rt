@@ -16,6 +16,8 @@ use operations::Storing;
 use registers::Registers;
 use tables::Vector;
 ghost use mathlib.Core.Path.{_≡_};
+ghost use mathlib.Core.List.{List};
+ghost use Prim.Native.Nat.{ℕ};
 ghost use Rattle.tables.specs.Tables.{vectorOf};
 ghost use Rattle.bus.specs.Access.{memories, readOf};
 ghost use Rattle.chip.specs.Act.{run, out};
@@ -387,15 +389,15 @@ impl Chip {
     }
 
     // The opcode's fetch: below $20 its read may have an effect, above none.
-    fn fetched(mut self, image: &[u8], area: &[u8]) -> Chip
-        ensures { λ r. ⌜ r ≡ chipOf (withPc (self .registers) (up (self .registers .pc) 1))
-            (readOf (memories (now (image .entry)) (now (area .entry))) (self .registers .pc) (self .bus) .next) ⌝ }
+    fn fetched(mut self, image: &[u8]) -> Chip
+        ensures { λ r. ⌜ ((area : List ℕ) → r ≡ chipOf (withPc (self .registers) (up (self .registers .pc) 1))
+            (readOf (memories (now (image .entry)) area) (self .registers .pc) (self .bus) .next)) ⌝ }
     {
         let pc = self.registers.pc;
         let registers = self.registers.with_pc(plus(pc, 1));
         self.registers = registers;
         if pc < 32 {
-            let f = self.bus.read(image, area, pc);
+            let f = self.bus.read_low(image, pc);
             let bus = f.next;
             self.bus = bus;
             return self;
@@ -407,7 +409,7 @@ impl Chip {
         ensures { λ r. ⌜ runOn (execute i) self (memories (now (image .entry)) (now (area .entry)))
             ≡ ran r (memories (now (image .exit)) (now (area .exit))) ⌝ }
     {
-        let f = self.fetched(image, area);
+        let f = self.fetched(image);
         let place = i.place;
         let o = f.locate(place, image, area);
         let operation = i.operation;

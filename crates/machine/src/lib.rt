@@ -326,7 +326,7 @@ impl Machine {
     {
         let pc = self.chip.registers.pc;
         if pc < 32 {
-            let f = self.chip.bus.read(image, area, pc);
+            let f = self.chip.bus.read_low(image, pc);
             return f.value;
         }
         bus::held(image, area, self.chip.bus.rame, pc)

@@ -4,7 +4,7 @@ ghost use mathlib.Core.Path.{_≡_};
 ghost use mathlib.Core.Option.{Option·getD};
 ghost use Rattle.replies.specs.Replies.{toldReply, toldFault, stops};
 
-// 01's replies 0 to 9, in order, and 02's 11; 4 to 7 name the record, counted from 0.
+// 01's replies 0 to 9, in order, and 02's 11 and 12; 4 to 7 name the record, counted from 0.
 pub enum Reply {
     Limit,
     WrongImage,
@@ -17,6 +17,7 @@ pub enum Reply {
     Undefined,
     Full,
     LogFull,
+    WrongArea,
 }
 
 impl Reply {
@@ -36,6 +37,7 @@ impl Reply {
             Reply::Undefined => 8,
             Reply::Full => 9,
             Reply::LogFull => 11,
+            Reply::WrongArea => 12,
         }
     }
 
@@ -55,6 +57,7 @@ impl Reply {
             Reply::Undefined => 0,
             Reply::Full => 0,
             Reply::LogFull => 0,
+            Reply::WrongArea => 0,
         }
     }
 

@@ -8,7 +8,7 @@ use mathlib.Core.Path.{_≡_}
 use lib.Dec.{leb, eqb}
 use Rattle.session.specs.Session.{dueAt}
 use Rattle.serial.specs.Serial.{wantsToSend, ticksSerial}
-use Rattle.bus.specs.Access.{Memories}
+use Rattle.bus.specs.Access.{memories}
 use Rattle.bus.specs.Units.{passed}
 use Rattle.registers.specs.declared.Registers.{Registers}
 use Rattle.registers.specs.Registers.{idles}
@@ -55,9 +55,12 @@ strodeOf s c cycles instructions =
     (byInstructions cycles instructions)
     (s .inside && eqb instructions 0)
 
--- the run goes on the same from r and the memories `after`, whatever else was lent
-abbrev pub Goes : Terms → State → Memories → State → Memories → Type 0
-Goes t s memory r after = (l : Lent) → runOf t (worldOf s (withMemories l memory)) ≡ runOf t (worldOf r (withMemories l after))
+-- the run goes on the same from r and the image `after`, whatever else was lent
+abbrev pub withImage : Lent → List ℕ → Lent
+withImage l image = withMemories l (memories image (l .area))
 
-abbrev pub Paced : Terms → State → Memories → State → Memories → Type 0
-Paced t s memory r after = Fine r × (s .cycles .0 ≤ r .cycles .0) × Goes t s memory r after
+abbrev pub Goes : Terms → State → List ℕ → State → List ℕ → Type 0
+Goes t s image r after = (l : Lent) → runOf t (worldOf s (withImage l image)) ≡ runOf t (worldOf r (withImage l after))
+
+abbrev pub Paced : Terms → State → List ℕ → State → List ℕ → Type 0
+Paced t s image r after = Fine r × (s .cycles .0 ≤ r .cycles .0) × Goes t s image r after

@@ -23,7 +23,6 @@ ghost use Prim.Native.Nat.{_+_, _-_, _≤_};
 ghost use Rattle.session.specs.Session.{dueAt};
 ghost use Rattle.serial.specs.Serial.{wantsToSend, ticksSerial};
 ghost use Rattle.timer.specs.Timer.{ticks};
-ghost use Rattle.bus.specs.Access.{memories};
 ghost use Rattle.machine.specs.Machine.{passedOf};
 ghost use Rattle.machine.specs.Interrupts.{pendingOf};
 ghost use Rattle.boundary.specs.declared.Watch.{Watch};
@@ -169,7 +168,7 @@ fn strode(s: State, c: Registers, cycles: Cycles, instructions: Instructions) ->
 fn stride(session: &[u8], n: u32, s: State, image: &mut [u8]) -> State
     requires { ⌜ Fine s × (n ≤ 1000000000) ⌝ }
     ensures { λ r. ⌜ ((watch : Watch) → Paced (watching (now (session .entry)) n watch)
-        s (memories (now (image .entry))) r (memories (now (image .exit)))) ⌝ }
+        s (now (image .entry)) r (now (image .exit))) ⌝ }
 {
     if n <= s.cycles.0 {
         return s;
@@ -177,6 +176,7 @@ fn stride(session: &[u8], n: u32, s: State, image: &mut [u8]) -> State
     let m = s.machine;
     let room = room(session, n, s);
     let masked = m.chip.registers.codes.i;
+    let floor = plain::floor_of(m.chip.bus.rame);
     let start = m.chip.bus.r;
     let mut c = m.chip.registers;
     let mut cycles = 0;
@@ -185,7 +185,7 @@ fn stride(session: &[u8], n: u32, s: State, image: &mut [u8]) -> State
         if (room <= cycles) | c.idles() | (c.codes.i != masked) {
             return strode(s, c, Cycles(cycles), Instructions(instructions));
         }
-        let h = plain::step(c, 32, start, image);
+        let h = plain::step(c, floor, start, image);
         match h {
             Hop::Made(k, next) => {
                 c = next;
@@ -203,7 +203,7 @@ fn stride(session: &[u8], n: u32, s: State, image: &mut [u8]) -> State
 fn pace(leaping: bool, session: &[u8], n: u32, s: State, image: &mut [u8]) -> State
     requires { ⌜ Fine s × (n ≤ 1000000000) ⌝ }
     ensures { λ r. ⌜ ((watch : Watch) → Paced (watching (now (session .entry)) n watch)
-        s (memories (now (image .entry))) r (memories (now (image .exit)))) ⌝ }
+        s (now (image .entry)) r (now (image .exit))) ⌝ }
 {
     if s.machine.chip.registers.idles() {
         if leaping {
@@ -221,18 +221,19 @@ pub fn run(
     n: u32,
     watch: Watch,
     image: &mut [u8],
+    area: &mut [u8],
     output: &mut [u8],
     log: &mut [u8],
     start: State,
 ) -> Outcome
     requires { ⌜ Fine start × (n ≤ 1000000000) ⌝ }
-    ensures { λ r. ⌜ endedOf (r .stop) (worldOf (r .state) (lending (now (image .exit)) (now (output .exit)) (now (log .exit))))
+    ensures { λ r. ⌜ endedOf (r .stop) (worldOf (r .state) (lending (now (image .exit)) (now (area .exit)) (now (output .exit)) (now (log .exit))))
         ≡ runOf (watching (now (session .entry)) n watch)
-        (worldOf start (lending (now (image .entry)) (now (output .entry)) (now (log .entry)))) ⌝ }
+        (worldOf start (lending (now (image .entry)) (now (area .entry)) (now (output .entry)) (now (log .entry)))) ⌝ }
 {
     let mut s = start;
     loop {
-        let t = s.boundary(session, n, watch, image, output, log);
+        let t = s.boundary(session, n, watch, image, area, output, log);
         let next = t.state;
         let progress = t.progress;
         match progress {

@@ -13,10 +13,10 @@ load-spec =
     tie.close
     (tie.spec
     (λ c κs. search needs)  -- address-requires
-    (λ c. λ s. is-left _ _ _)  -- returns
+    (λ c. λ s. is-left _ _ _ _)  -- returns
     (λ c κs. search needs)  -- peek-requires
     (λ c κs. search needs)  -- loaded-requires
-    (λ c. λ s. is-made _ _ _ _ _ (λ b h. after _ _ _ _
-    (reads _ _ _ (alone (c .before .before .before .before .before .pre) (rw (c .before .before .before .address .ensures) at (c .before .before .if1 .left)))
+    (λ c. λ s. is-made _ _ _ _ _ _ (λ b area f r. after _ _ _ _
+    (reads _ _ _ _ (alone f (rw (c .before .before .before .address .ensures) at (c .before .before .if1 .left)))
     (rw (c .before .before .before .address .ensures) at (c .before .peek .ensures)))
     (ends _ _ _ (sym (c .loaded .ensures))))))  -- returns-2

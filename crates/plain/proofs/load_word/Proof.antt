@@ -13,15 +13,15 @@ load-word-spec =
     tie.close
     (tie.spec
     (λ c κs. search needs)  -- address-requires
-    (λ c. λ s. is-left _ _ _)  -- returns
+    (λ c. λ s. is-left _ _ _ _)  -- returns
     (λ c κs. search needs)  -- plus-requires
-    (λ c. λ s. is-left _ _ _)  -- returns-2
+    (λ c. λ s. is-left _ _ _ _)  -- returns-2
     (λ c κs. search needs)  -- word-requires
     (λ c κs. search needs)  -- loaded-word-requires
-    (λ c. λ s. is-made _ _ _ _ _ (λ b h. after _ _ _ _
-    (reads2 _ _ _ (alone (c .before .before .before .before .before .before .before .pre)
+    (λ c. λ s. is-made _ _ _ _ _ _ (λ b area f r. after _ _ _ _
+    (reads2 _ _ _ _ (alone f
     (rw (c .before .before .before .before .before .address .ensures) at (c .before .before .before .before .if1 .left)))
-    (alone (c .before .before .before .before .before .before .before .pre)
+    (alone f
     (rw (c .before .before .before .plus .ensures, c .before .before .before .before .before .address .ensures) at (c .before .before .if2 .left)))
     (rw (c .before .before .before .before .before .address .ensures) at (c .before .word .ensures)))
     (ends _ _ _ (sym (c .loaded-word .ensures))))))  -- returns-3

@@ -11,16 +11,16 @@ unfolding modifies
 modify-spec =
     tie.close
     (tie.spec
-    (λ c. is-left _ _ _)  -- returns
+    (λ c. is-left _ _ _ _)  -- returns
     (λ c κs. search needs)  -- peek-requires
     (λ c κs. search needs)  -- monadic-requires
     (λ c κs. search needs)  -- write-plain-requires
     (λ c κs. search needs)  -- with-codes-requires
     (λ c. search needs)  -- same-length
-    (λ c. is-made _ _ _ _ _ (λ b h. after _ _ _ _
-    (reads _ _ _ (alone (c .before .before .before .before .before .before .before .before .before .before .pre) (c .before .before .before .before .before .before .before .before .if1 .left))
+    (λ c. is-made _ _ _ _ _ _ (λ b area f r. after _ _ _ _
+    (reads _ _ _ _ (alone f (c .before .before .before .before .before .before .before .before .if1 .left))
     (c .before .before .before .before .before .before .peek .ensures))
     (after _ _ _ _
-    (writes _ _ _ _ (alone (c .before .before .before .before .before .before .before .before .before .before .pre) (c .before .before .before .before .before .before .before .before .if1 .left))
-    (rw (c .before .before .before .before .before .monadic .ensures) at (c .before .before .before .write-plain .ensures b h)))
+    (writes _ _ _ _ _ (alone f (c .before .before .before .before .before .before .before .before .if1 .left))
+    (rw (c .before .before .before .before .before .monadic .ensures) at (c .before .before .before .write-plain .ensures b area r)))
     (ends _ _ _ (rw (c .with-codes .ensures, c .before .before .before .before .before .monadic .ensures)))))))  -- returns-2

@@ -13,13 +13,13 @@ store-spec =
     tie.close
     (tie.spec
     (λ c κs. search needs)  -- address-requires
-    (λ c. is-left _ _ _)  -- returns
+    (λ c. is-left _ _ _ _)  -- returns
     (λ c κs. search needs)  -- byte-requires
     (λ c κs. search needs)  -- write-plain-requires
     (λ c κs. search needs)  -- stored-requires
     (λ c. search needs)  -- same-length
-    (λ c. is-made _ _ _ _ _ (λ b h. after _ _ _ _
-    (writes _ _ _ _ (alone (c .before .before .before .before .before .before .before .before .before .pre)
+    (λ c. is-made _ _ _ _ _ _ (λ b area f r. after _ _ _ _
+    (writes _ _ _ _ _ (alone f
     (rw (c .before .before .before .before .before .before .before .address .ensures) at (c .before .before .before .before .before .before .if1 .left)))
-    (rw (c .before .before .before .before .before .before .before .address .ensures, c .before .before .before .before .byte .ensures) at (c .before .before .before .write-plain .ensures b h)))
+    (rw (c .before .before .before .before .before .before .before .address .ensures, c .before .before .before .before .byte .ensures) at (c .before .before .before .write-plain .ensures b area r)))
     (ends _ _ _ (sym (c .stored .ensures))))))  -- returns-2

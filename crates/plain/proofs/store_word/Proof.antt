@@ -13,8 +13,8 @@ store-word-spec =
     tie.close
     (tie.spec
     (λ c κs. search needs)  -- plus-requires
-    (λ c. is-left _ _ _)  -- returns
-    (λ c. is-left _ _ _)  -- returns-2
+    (λ c. is-left _ _ _ _)  -- returns
+    (λ c. is-left _ _ _ _)  -- returns-2
     (λ c κs. search needs)  -- stored-requires
     (λ c κs. search needs)  -- upper-requires
     (λ c κs. search needs)  -- write-plain-requires
@@ -22,21 +22,21 @@ store-word-spec =
     (λ c κs. search needs)  -- write-plain-requires-2
     (λ c κs. search needs)  -- stored-word-requires
     (λ c. search needs)  -- same-length
-    (λ c. is-made _ _ _ _ _ (λ b h. after _ _ _ _
-    (writes2 _ _ _ _ (alone (c .before .before .before .before .before .before .before .before .before .before .before .before .before .before .before .before .pre)
+    (λ c. is-made _ _ _ _ _ _ (λ b area f r. after _ _ _ _
+    (writes2 _ _ _ _ _ (alone f
     (c .before .before .before .before .before .before .before .before .before .before .before .before .before .if1 .left))
-    (alone (c .before .before .before .before .before .before .before .before .before .before .before .before .before .before .before .before .pre)
+    (alone f
     (rw (c .before .before .before .before .before .before .before .before .before .before .before .before .before .before .plus .ensures) at
     (c .before .before .before .before .before .before .before .before .before .before .before .before .if2 .left)))
     (rw (
       c .before .before .before .before .before .before .before .before .before .upper .ensures,
       c .before .before .before .before .before .before .before .before .before .before .before .stored .ensures,
     ) at
-    (c .before .before .before .before .before .before .before .before .write-plain .ensures b h))
+    (c .before .before .before .before .before .before .before .before .write-plain .ensures b area r))
     (rw (
       c .before .before .before .before .before .before .before .before .before .before .before .before .before .before .plus .ensures,
       c .before .before .before .before .lower .ensures,
       c .before .before .before .before .before .before .before .before .before .before .before .stored .ensures,
     ) at
-    (c .before .before .before .write-plain2 .ensures b h)))
+    (c .before .before .before .write-plain2 .ensures b area r)))
     (ends _ _ _ (sym (c .stored-word .ensures))))))  -- returns-3

@@ -16,6 +16,6 @@ execute-spec =
     (λ c. search needs)  -- same-length
     (λ c. search needs)  -- same-length-2
     (λ c. after _ _ _ _ (by-read _ _ _ refl)
-    (after _ _ _ _ (rw (c .before .before .before .before .before .before .before .before .before .before .fetched .ensures) at
-    (c .before .before .before .before .before .before .before .locate .ensures))
-    (c .before .before .before .before .operate .ensures))))  -- returns
+    (after _ _ _ _ (rw (c .before .before .before .before .before .before .before .before .before .before .fetched .ensures
+    (c .before .before .before .before .before .before .before .before .before .before .before .before .before .before .args .area .now)) at
+    (c .before .before .before .before .before .before .before .locate .ensures)) (c .before .before .before .before .operate .ensures))))  -- returns
