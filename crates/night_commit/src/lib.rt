@@ -270,7 +270,7 @@ fn bytes_of<'a>(
 // A file is made in STATE.night; there is none with a higher number.
 fn make_file<'a>(
     op: Op,
-    state: & [u8],
+    state: &[u8],
     names: &'a [u8],
     image: &'a [u8],
     machine: &'a [u8],
@@ -293,7 +293,7 @@ fn make_file<'a>(
 // of the night where `names` has their names.
 pub fn finish<'a>(
     ran: bool,
-    state: & [u8],
+    state: &[u8],
     names: &'a [u8],
     image: &'a [u8],
     machine: &'a [u8],
