@@ -204,16 +204,6 @@ fn read_place(i: u8, state_name: &[u8], names: &[u8], buffer: &mut [u8]) -> Held
     read_file(&name[..n], buffer)
 }
 
-// Whether it is missing.
-fn is_missing(i: u8, state_name: &[u8], names: &[u8]) -> bool {
-    let mut byte = [0u8; 1];
-    let held = read_place(i, state_name, names, &mut byte);
-    match held {
-        Held::Missing => true,
-        _ => false,
-    }
-}
-
 // The same into a buffer that it must fill: 0, or the number of a refusal, this one where its length is wrong.
 fn fill(i: u8, state_name: &[u8], names: &[u8], buffer: &mut [u8], wrong: u8) -> u8 {
     let held = read_place(i, state_name, names, buffer);
@@ -230,7 +220,17 @@ fn fill(i: u8, state_name: &[u8], names: &[u8], buffer: &mut [u8], wrong: u8) ->
     }
 }
 
-// The image and the area are read: 0, or the number of a refusal. Where area and state are both missing the night begins with the area's zeros.
+// Whether a file of the night is missing.
+fn is_missing(i: u8, state_name: &[u8], names: &[u8]) -> bool {
+    let mut byte = [0u8; 1];
+    let held = read_place(i, state_name, names, &mut byte);
+    match held {
+        Held::Missing => true,
+        _ => false,
+    }
+}
+
+// The image (0) and the area (5) are read: 0, or the number of a refusal. Where the area and STATE (1) are both missing, the area stays zeros.
 fn read_memories(state_name: &[u8], names: &[u8], image: &mut [u8], area: &mut [u8]) -> u8 {
     let refused = fill(0, state_name, names, image, 1);
     if refused != 0 {

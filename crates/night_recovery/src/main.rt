@@ -277,8 +277,8 @@ fn folders() {
     show_names(b"no state", b"i", b"s", b"", b"o");
 }
 
-// Whether a night may have this area.
-fn show_area(word: &[u8], file: &[u8], state: &[u8]) {
+// Whether a night on this state may have this area.
+fn show_area_of(word: &[u8], file: &[u8], state: &[u8]) {
     show_which(
         word,
         night_names::is_area(file, b"s", state, b"i/o"),
@@ -287,19 +287,26 @@ fn show_area(word: &[u8], file: &[u8], state: &[u8]) {
     );
 }
 
+fn show_area(word: &[u8], file: &[u8]) {
+    show_area_of(word, file, b"m");
+}
+
 fn area_names() {
-    show_area(b"area", b"a", b"m");
-    show_area(b"area of state", b"m.area", b"m");
-    show_area(b"no area", b"", b"m");
-    show_area(b"area elsewhere", b"./m.area", b"m");
-    show_area(b"area is image", b"i", b"m");
-    show_area(b"area is session", b"s", b"m");
-    show_area(b"area is state", b"m", b"m");
-    show_area(b"area is output", b"o", b"m");
-    show_area(b"area is rest", b"m.rest", b"m");
-    show_area(b"area is names", b"m.names", b"m");
-    show_area(b"area is night", b"m.night", b"m");
-    show_area(b"area is done", b"m.done", b"m");
+    show_area(b"area", b"a");
+    show_area(b"area of state", b"m.area");
+    show_area(b"no area", b"");
+    show_area(b"area elsewhere", b"./m.area");
+    show_area(b"area is image", b"i");
+    show_area(b"area is session", b"s");
+    show_area(b"area is output", b"o");
+}
+
+fn areas_of_state() {
+    show_area(b"area is state", b"m");
+    show_area(b"area is rest", b"m.rest");
+    show_area(b"area is names", b"m.names");
+    show_area(b"area is night", b"m.night");
+    show_area(b"area is done", b"m.done");
 }
 
 // A last part of 249 bytes, and one of 250: as long as it may be, and longer. Its area's is longer still.
@@ -307,10 +314,10 @@ fn long_parts() {
     let part = [97u8; 250];
     show_image(b"part of 249", &part[..249]);
     show_image(b"part of 250", &part);
-    show_area(b"area of 250", &part, b"m");
+    show_area(b"area of 250", &part);
     let mut area = io::buffer();
     let n = night_arguments::joined(&part[..249], b".area", &mut area);
-    show_area(b"area of a state of 249", &area[..n], &part[..249]);
+    show_area_of(b"area of a state of 249", &area[..n], &part[..249]);
 }
 
 // Whether a night may have this log.
@@ -339,6 +346,7 @@ fn texts() {
     outputs();
     folders();
     area_names();
+    areas_of_state();
     long_parts();
     logs();
 }
