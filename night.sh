@@ -1,7 +1,7 @@
 #!/bin/sh
 # Runs the night program: proves it and what it needs where that is not done yet, then runs it.
 #   bash night.sh                                       the shipped example, in the fresh folder night/out
-#   bash night.sh [--log FILE] [--] IMAGE SESSION N R STATE OUTPUT
+#   bash night.sh [--area FILE] [--log FILE] [--] IMAGE SESSION N R STATE OUTPUT
 #                                                       on files of the caller's; to go on, STATE.rest is the next SESSION
 # Needs the Rattle kit: `rt` on the PATH. docs/NIGHT.md explains the files, the lines and the refusals. Exit status: tools/launch.sh.
 set -eu

@@ -11,17 +11,18 @@ mapfile -t words < <(sh "$root/tools/launch.sh" --words)
 room=$(mktemp -d) && trap 'rm -rf "$room"' EXIT
 cd "$room" && mkdir sets d || exit 2
 case $(uname -m) in                                                  # the call that renames, those that remove with how many a clean-up has, and all
-x86_64) rename=rename removals='unlink:6 rmdir:1' kinds='.*' ;;
-*) rename=renameat removals=unlinkat:7 kinds='\(mkdir\|open\|rename\|unlink\)at\|read\|write\|fsync\|close' ;;
+x86_64) rename=rename removals='unlink:7 rmdir:1' kinds='.*' ;;
+*) rename=renameat removals=unlinkat:8 kinds='\(mkdir\|open\|rename\|unlink\)at\|read\|write\|fsync\|close' ;;
 esac
-files="image state state.rest output state.names log"
+files="image state state.rest output state.names state.area log"
 exec 2>/dev/null  # the shell tells of each one that is killed
 
-# a ROM that counts in $80 and sends the count for ever, and returns from NMI at once; an idle line and an NMI in turn, every 2,000 cycles
+# a ROM that puts the RAM away, counts in the area's $80 and in $0100 and sends the first count, for ever, and returns from NMI at once; an idle line and an
+# NMI in turn, every 2,000 cycles
 python3 - <<'PY'
 image = bytearray(65536)
-image[0xF000:0xF013] = bytes.fromhex("8E00FF" "86029711" "7C0080" "9611" "9680" "9713" "20F5" "3B")
-image[0xFFFC:] = b"\xF0\x12\xF0\x00"
+image[0xF000:0xF019] = bytes.fromhex("8E00FF" "7F0014" "86029711" "7C0080" "7C0100" "9611" "9680" "9713" "20F2" "3B")
+image[0xFFFC:] = b"\xF0\x18\xF0\x00"
 open("rom", "wb").write(image)
 open("evening", "wb").write(b"".join(b"\x06\0" + (b"\x06\0", b"\x04\0")[k % 2] + (2000 * k).to_bytes(4, "little") for k in range(80)))
 PY
@@ -88,7 +89,7 @@ faults() {
 # a write fails, and the clean-up is killed
 cleanups() {
     local k j syscall
-    for k in 1 2 3 4 5 6; do
+    for k in 1 2 3 4 5 6 7; do
         for syscall in $removals; do
             for j in $(seq 1 "${syscall#*:}"); do
                 back one; cd d || exit 2
@@ -108,7 +109,7 @@ call=(--log log image state.rest 14000 61440 state output)
 (cd d && night "${call[@]}" >/dev/null); keep three
 back one; (cd d && faulty -e trace=$rename -e inject=$rename:signal=KILL:when=3); keep half
 [ -e d/state.done ] || { echo "no STATE.done to recover from"; exit 2; }
-for f in image state state.rest output log; do
+for f in image state state.rest output state.area log; do
     if cmp -s sets/one/$f sets/two/$f || cmp -s sets/two/$f sets/three/$f; then echo "two nights leave the same $f: nothing would show"; exit 2; fi
 done
 
@@ -134,23 +135,23 @@ done
 echo "two at once 100 bad $worse (the second refused $refused, followed $followed)"
 
 # The first call finds STATE.done and is held at its first rename; meanwhile the second, with other names, puts those files in place, runs, commits, and
-# is held after its commit (its seventh rename). Each night's files must come to its own places.
+# is held after its commit (its eighth rename). Each night's files must come to its own places.
 back half; cd d || exit 2
-cp ../sets/two/image image2
+cp ../sets/two/image image2; cp ../sets/two/state.area area2
 faulty -e trace=$rename -e inject=$rename:delay_enter=2000000:when=1 & a=$!
 sleep 0.5
-strace -o ../held -e trace=$rename -e inject=$rename:delay_exit=3000000:when=7 \
-    "${words[@]}" "$root/target/bin/night" --log log2 image2 state.rest 14000 61440 state output2 >../second
+strace -o ../held -e trace=$rename -e inject=$rename:delay_exit=3000000:when=8 \
+    "${words[@]}" "$root/target/bin/night" --area area2 --log log2 image2 state.rest 14000 61440 state output2 >../second
 wait $a
 mixed=0
-for f in 'image two image' 'output two output' 'log two log' 'image2 three image' 'output2 three output' 'log2 three log' \
-    'state three state' 'state.rest three state.rest'; do
+for f in 'image two image' 'output two output' 'state.area two state.area' 'log two log' 'image2 three image' 'output2 three output' \
+    'area2 three state.area' 'log2 three log' 'state three state' 'state.rest three state.rest'; do
     read -r here set there <<<"$f"
     cmp -s "$here" "../sets/$set/$there" || { mixed=1; echo "bad: a held call: $here is not the one of night $set"; }
 done
 if ! said '^refused 34' || ! grep -q '^night stop' ../second || [ -e state.done ] || [ -e state.night ]; then
     mixed=1; echo "bad: a held call: $(cat ../out ../second)"
 fi
-[ "$(cat state.names)" = image2/output2/log2 ] || { mixed=1; echo "bad: a held call: state.names"; }
+[ "$(cat state.names)" = image2/output2/area2/log2 ] || { mixed=1; echo "bad: a held call: state.names"; }
 echo "a held call: bad $mixed"
 [ "$bad$worse$mixed" = 000 ]

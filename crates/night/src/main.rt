@@ -1,5 +1,5 @@
-// The night program: [--log FILE] [--] IMAGE SESSION N R STATE OUTPUT. It runs a night on the files, prints a line for each slice and one for the
-// night, and has night_commit put the new files in the old ones' places (docs/NIGHT.md).
+// The night program: [--area FILE] [--log FILE] [--] IMAGE SESSION N R STATE OUTPUT. It runs a night on the files, prints a line for each
+// slice and one for the night, and has night_commit put the new files in the old ones' places (docs/NIGHT.md).
 use boundary::Watch;
 use counts::Cycles;
 use machine::Machine;
@@ -10,6 +10,7 @@ use night_steps::Op;
 use saved::Loaded;
 ghost use mathlib.Core.Path.{_≡_};
 ghost use lib.ListN.{length};
+ghost use Rattle.io.specs.Counts.{Counts};
 
 // What a file held: so many bytes, more than the buffer, or it is missing or cannot be read.
 enum Held {
@@ -19,11 +20,12 @@ enum Held {
     Failed,
 }
 
-// The two numbers of a call, and whether it asks for a log.
+// The two numbers of a call, and which arguments name its area and its log: 0 where none does.
 struct Terms {
     n: u32,
     r: u32,
-    log: bool,
+    area: u8,
+    log: u8,
 }
 
 // What a night starts from: a machine, or the number of a refusal.
@@ -114,18 +116,19 @@ fn tell(end: Op) {
 
 // A night that did not run: STATE.night is removed.
 fn give_up(state_name: &[u8], names: &[u8]) {
-    night_commit::finish(false, state_name, names, b"", b"", b"", b"", b"");
+    night_commit::finish(false, state_name, names, b"", b"", b"", b"", b"", b"");
 }
 
 // A night that has run: its files, or STATE.night is removed.
-fn keep(
+fn keep<'a>(
     state_name: &[u8],
-    names: &[u8],
+    names: &'a [u8],
     night: Night,
-    image: &[u8],
-    session: &[u8],
-    output: &[u8],
-    log: &[u8],
+    image: &'a [u8],
+    area: &'a [u8],
+    session: &'a [u8],
+    output: &'a [u8],
+    log: &'a [u8],
 ) {
     let line = night.line();
     if !night.has_stopped() {
@@ -143,6 +146,7 @@ fn keep(
         &machine,
         cabinet::filled(session, night.length),
         cabinet::filled(output, night.sent),
+        area,
         cabinet::filled(log, night.logged),
     );
     match end {
@@ -151,32 +155,34 @@ fn keep(
     }
 }
 
-// A night from a machine, and its files.
+// A night from a machine, and its files. The log is lent whether it is asked for or not.
 fn pass(
     state_name: &[u8],
     names: &[u8],
     image: &mut [u8],
+    area: &mut [u8],
     session: &mut [u8],
     size: usize,
     terms: Terms,
     m: Machine,
-    log: &mut [u8],
 ) {
     let mut spare = zeros();
     let mut output = io::large_buffer();
+    let mut log = zeros();
     let watch = Watch {
-        log: terms.log,
+        log: terms.log != 0,
         since: Cycles(0),
     };
     let night = night_slices::run_night(
         image,
+        area,
         m,
         session,
         size,
         terms.n,
         watch,
         &mut output,
-        log,
+        &mut log,
         &mut spare,
     );
     keep(
@@ -184,58 +190,63 @@ fn pass(
         names,
         night,
         &image[..],
+        &area[..],
         &session[..],
         &output,
-        &log[..],
+        &log,
     );
 }
 
-// The same, with room for a log where one is asked for.
-fn pass_either(
-    state_name: &[u8],
-    names: &[u8],
-    image: &mut [u8],
-    session: &mut [u8],
-    size: usize,
-    terms: Terms,
-    m: Machine,
-) {
-    if terms.log {
-        let mut log = zeros();
-        pass(state_name, names, image, session, size, terms, m, &mut log);
-        return;
-    }
-    let mut none = [0u8; 1];
-    pass(state_name, names, image, session, size, terms, m, &mut none);
+// A file of the night is read, by its number.
+fn read_place(i: u8, state_name: &[u8], names: &[u8], buffer: &mut [u8]) -> Held {
+    let mut name = io::buffer();
+    let n = night_names::place_of(i, state_name, names, &mut name);
+    read_file(&name[..n], buffer)
 }
 
-// The image's file is read into the buffer: 0, or the number of a refusal.
-fn read_image(name: &[u8], image: &mut [u8]) -> u8 {
-    let held = read_file(name, image);
+// The same into a buffer that it must fill: 0, or the number of a refusal, this one where its length is wrong.
+fn fill(i: u8, state_name: &[u8], names: &[u8], buffer: &mut [u8], wrong: u8) -> u8 {
+    let held = read_place(i, state_name, names, buffer);
     match held {
         Held::Missing => 33,
         Held::Failed => 33,
-        Held::Longer => 1,
+        Held::Longer => wrong,
         Held::Bytes(count) => {
-            if count != 65536 {
-                return 1;
+            if count != buffer.len() {
+                return wrong;
             }
             0
         }
     }
 }
 
+// Whether a file of the night is missing.
+fn is_missing(i: u8, state_name: &[u8], names: &[u8]) -> bool {
+    let mut byte = [0u8; 1];
+    let held = read_place(i, state_name, names, &mut byte);
+    match held {
+        Held::Missing => true,
+        _ => false,
+    }
+}
+
+// The image (0) and the area (5) are read: 0, or the number of a refusal. Where the area and STATE (1) are both missing, the area stays zeros.
+fn read_memories(state_name: &[u8], names: &[u8], image: &mut [u8], area: &mut [u8]) -> u8 {
+    let refused = fill(0, state_name, names, image, 1);
+    if refused != 0 {
+        return refused;
+    }
+    if is_missing(5, state_name, names) & is_missing(1, state_name, names) {
+        return 0;
+    }
+    fill(5, state_name, names, area, 12)
+}
+
 // A night whose session was read.
-fn start(
-    image_name: &[u8],
-    state_name: &[u8],
-    names: &[u8],
-    session: &mut [u8],
-    size: usize,
-    terms: Terms,
-) {
+fn start(state_name: &[u8], names: &[u8], session: &mut [u8], size: usize, terms: Terms) {
     let mut image = io::large_buffer();
-    let refused = read_image(image_name, &mut image);
+    let mut area = [0u8; 128];
+    let refused = read_memories(state_name, names, &mut image, &mut area);
     if refused != 0 {
         give_up(state_name, names);
         refuse(refused);
@@ -247,16 +258,25 @@ fn start(
             give_up(state_name, names);
             refuse(k);
         }
-        Begun::From(m) => pass_either(state_name, names, &mut image, session, size, terms, m),
+        Begun::From(m) => pass(
+            state_name,
+            names,
+            &mut image,
+            &mut area,
+            session,
+            size,
+            terms,
+            m,
+        ),
     }
 }
 
 // A night that has STATE.night to itself.
-fn run(image_name: &[u8], session_name: &[u8], state_name: &[u8], names: &[u8], terms: Terms) {
+fn run(session_name: &[u8], state_name: &[u8], names: &[u8], terms: Terms) {
     let mut session = zeros();
     let held = read_file(session_name, &mut session);
     match held {
-        Held::Bytes(size) => start(image_name, state_name, names, &mut session, size, terms),
+        Held::Bytes(size) => start(state_name, names, &mut session, size, terms),
         _ => {
             give_up(state_name, names);
             refuse(33);
@@ -265,45 +285,64 @@ fn run(image_name: &[u8], session_name: &[u8], state_name: &[u8], names: &[u8], 
 }
 
 // A call whose names are allowed, but for folders.
-fn call(image_name: &[u8], session_name: &[u8], state_name: &[u8], names: &[u8], terms: Terms) {
+fn call(session_name: &[u8], state_name: &[u8], names: &[u8], terms: Terms) {
     if night_commit::has_folder(state_name, names) {
         refuse(32);
         return;
     }
     let op = night_commit::prepare(state_name);
     match op {
-        Op::Run => run(image_name, session_name, state_name, names, terms),
+        Op::Run => run(session_name, state_name, names, terms),
         _ => tell(op),
     }
 }
 
-// The same with a log, whose name is this argument.
-fn call_logged(
-    image_name: &[u8],
-    session_name: &[u8],
-    state_name: &[u8],
-    names: &[u8],
-    log: u8,
-    terms: Terms,
-) {
+// The same with its log, where it has one.
+fn call_logged(session_name: &[u8], state_name: &[u8], names: &[u8], terms: Terms) {
+    if terms.log == 0 {
+        call(session_name, state_name, names, terms);
+        return;
+    }
     let mut log_name = io::buffer();
-    let n = os::arg(log as usize, &mut log_name);
+    let n = os::arg(terms.log as usize, &mut log_name);
     if !night_names::is_further(&log_name[..n], session_name, state_name, names) {
         refuse(32);
         return;
     }
     let mut buffer = io::buffer();
     let m = night_names::with_name(names, &log_name[..n], &mut buffer);
-    call(image_name, session_name, state_name, &buffer[..m], terms);
+    call(session_name, state_name, &buffer[..m], terms);
 }
 
-// A call on files of these names, and a log where its argument is no 0.
+// The area's name: its argument, or STATE.area.
+fn area_name(area: u8, state_name: &[u8], buffer: &mut [u8]) -> usize
+    ensures { λ r. ⌜ Counts r (now (buffer .exit)) ⌝ }
+{
+    if area == 0 {
+        return night_arguments::joined(state_name, b".area", buffer);
+    }
+    os::arg(area as usize, buffer)
+}
+
+// The same with its area.
+fn call_with_area(session_name: &[u8], state_name: &[u8], names: &[u8], terms: Terms) {
+    let mut name = io::buffer();
+    let n = area_name(terms.area, state_name, &mut name);
+    if !night_names::is_area(&name[..n], session_name, state_name, names) {
+        refuse(32);
+        return;
+    }
+    let mut buffer = io::buffer();
+    let m = night_names::with_name(names, &name[..n], &mut buffer);
+    call_logged(session_name, state_name, &buffer[..m], terms);
+}
+
+// A call on files of these names.
 fn call_named(
     image_name: &[u8],
     session_name: &[u8],
     state_name: &[u8],
     output_name: &[u8],
-    log: u8,
     terms: Terms,
 ) {
     if !night_names::are_names(image_name, session_name, state_name, output_name) {
@@ -312,18 +351,7 @@ fn call_named(
     }
     let mut names = io::buffer();
     let n = night_names::record_names(image_name, output_name, &mut names);
-    if log == 0 {
-        call(image_name, session_name, state_name, &names[..n], terms);
-        return;
-    }
-    call_logged(
-        image_name,
-        session_name,
-        state_name,
-        &names[..n],
-        log,
-        terms,
-    );
+    call_with_area(session_name, state_name, &names[..n], terms);
 }
 
 // The number that an argument is.
@@ -334,7 +362,7 @@ fn number_at(i: usize) -> Number {
 }
 
 // The call whose six names begin at this argument.
-fn read_names(first: u8, log: u8) {
+fn read_names(first: u8, area: u8, log: u8) {
     let at = first as usize;
     let n = number_at(at + 2);
     let r = number_at(at + 3);
@@ -357,16 +385,10 @@ fn read_names(first: u8, log: u8) {
     let terms = Terms {
         n: cycles,
         r: start,
-        log: log != 0,
+        area: area,
+        log: log,
     };
-    call_named(
-        &image[..a],
-        &session[..b],
-        &state[..c],
-        &output[..d],
-        log,
-        terms,
-    );
+    call_named(&image[..a], &session[..b], &state[..c], &output[..d], terms);
 }
 
 // What an argument is.
@@ -392,11 +414,11 @@ fn read_kinds(count: usize, kinds: &mut [u8]) -> usize {
 fn main() {
     let mut kinds = [0u8; 33];
     let n = read_kinds(os::arg_count(), &mut kinds);
-    let mut values = [0u8; 1];
+    let mut values = [0u8; 2];
     let first = night_arguments::read_call(cabinet::filled(&kinds, n), &mut values);
     if first == 0 {
         refuse(32);
         return;
     }
-    read_names(first, values[0]);
+    read_names(first, values[0], values[1]);
 }

@@ -8,13 +8,14 @@ use Rattle.printing.specs.Printing.{ascii}
 use Rattle.night_arguments.specs.Arguments.{sameOf}
 
 -- What an argument is, by its text, where it is no option's value: 0 a name, 1 the end of the options, 2 an option that there is not, and from 3 on
--- the options, a row each.
+-- the options, a row each, those that name a file in the order of the night's files.
 unfoldable pub kindOf : List ℕ → ℕ
 kindOf text =
     cond (not (sameOf (take 2 text) (ascii "--"))) 0
     (cond (sameOf text (ascii "--")) 1
-    (cond (sameOf text (ascii "--log")) 3
-    2))
+    (cond (sameOf text (ascii "--area")) 3
+    (cond (sameOf text (ascii "--log")) 4
+    2)))
 
 -- "each at most once": the option of this kind is there, and its value is not given yet
 abbrev pub isFree : ℕ → List ℕ → Bool

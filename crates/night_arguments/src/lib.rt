@@ -79,8 +79,11 @@ pub fn kind_of(text: &[u8]) -> u8
     if same(text, b"--") {
         return 1;
     }
-    if same(text, b"--log") {
+    if same(text, b"--area") {
         return 3;
+    }
+    if same(text, b"--log") {
+        return 4;
     }
     2
 }

@@ -1,7 +1,10 @@
 // What carries out a night's operations on its files: names and system calls. The order is night_steps' alone (docs/NIGHT.md).
 use night_steps::Op;
+ghost use Prim.Native.Nat.{_≤_};
 ghost use mathlib.Core.Bool.{true};
+ghost use mathlib.Core.List.{[], _∷_};
 ghost use mathlib.Core.Path.{_≡_};
+ghost use lib.ListN.{getD};
 ghost use Rattle.io.specs.Counts.{Counts};
 ghost use Rattle.night_steps.specs.Steps.{waitsOf};
 
@@ -238,48 +241,73 @@ pub fn prepare(state: &[u8]) -> Op
     )
 }
 
-// A file is made in STATE.night, by its number (`Op` of night_steps).
-fn make_file(
+// The bytes of a night's file, by its number (`Op` of night_steps).
+fn bytes_of<'a>(
+    i: u8,
+    names: &'a [u8],
+    image: &'a [u8],
+    machine: &'a [u8],
+    rest: &'a [u8],
+    output: &'a [u8],
+    area: &'a [u8],
+    log: &'a [u8],
+) -> &'a [u8]
+    requires { ⌜ i ≤ 6 ⌝ }
+    ensures { λ r. ⌜ now r ≡ getD (now (image .entry) ∷ now (machine .entry) ∷ now (rest .entry) ∷ now (output .entry) ∷ now (names .entry)
+        ∷ now (area .entry) ∷ now (log .entry) ∷ []) i [] ⌝ }
+{
+    match i {
+        0 => image,
+        1 => machine,
+        2 => rest,
+        3 => output,
+        4 => names,
+        5 => area,
+        _ => log,
+    }
+}
+
+// A file is made in STATE.night; there is none with a higher number.
+fn make_file<'a>(
     op: Op,
     state: &[u8],
-    names: &[u8],
-    image: &[u8],
-    machine: &[u8],
-    rest: &[u8],
-    output: &[u8],
-    log: &[u8],
+    names: &'a [u8],
+    image: &'a [u8],
+    machine: &'a [u8],
+    rest: &'a [u8],
+    output: &'a [u8],
+    area: &'a [u8],
+    log: &'a [u8],
 ) -> bool {
     let Op::Make(i) = op else {
         return false;
     };
-    match i {
-        0 => make(i, state, names, image),
-        1 => make(i, state, names, machine),
-        2 => make(i, state, names, rest),
-        3 => make(i, state, names, output),
-        4 => make(i, state, names, names),
-        _ => make(i, state, names, log),
+    if 6 < i {
+        return false;
     }
+    let bytes = bytes_of(i, names, image, machine, rest, output, area, log);
+    make(i, state, names, bytes)
 }
 
-// The end of a call whose night has run: its files are made, committed and put in place; or STATE.night is removed. The log is a file of the night
-// where `names` has its name.
-pub fn finish(
+// The end of a call whose night has run: its files are made, committed and put in place; or STATE.night is removed. The area and the log are files
+// of the night where `names` has their names.
+pub fn finish<'a>(
     ran: bool,
     state: &[u8],
-    names: &[u8],
-    image: &[u8],
-    machine: &[u8],
-    rest: &[u8],
-    output: &[u8],
-    log: &[u8],
+    names: &'a [u8],
+    image: &'a [u8],
+    machine: &'a [u8],
+    rest: &'a [u8],
+    output: &'a [u8],
+    area: &'a [u8],
+    log: &'a [u8],
 ) -> Op
     ensures { λ r. ⌜ waitsOf r ≡ true ⌝ }
 {
     let files = night_names::files(names);
     let mut op = night_steps::next(files, Op::Run, ran, true);
     while night_steps::is_make(op) {
-        let ok = make_file(op, state, names, image, machine, rest, output, log);
+        let ok = make_file(op, state, names, image, machine, rest, output, area, log);
         op = night_steps::next(files, op, ok, true);
     }
     carry(op, true, state, names)

@@ -40,8 +40,8 @@ isWith name state ending = sameOf name (joinedOf state ending 4096)
 -- a name is STATE, or one of the names that a night makes of it
 unfoldable pub isOfState : List ℕ → List ℕ → Bool
 isOfState name state =
-    (((sameOf name state || isWith name state (ascii ".rest")) || isWith name state (ascii ".names")) || isWith name state (ascii ".night"))
-    || isWith name state (ascii ".done")
+    ((((sameOf name state || isWith name state (ascii ".rest")) || isWith name state (ascii ".names")) || isWith name state (ascii ".area"))
+    || isWith name state (ascii ".night")) || isWith name state (ascii ".done")
 
 -- SESSION has a name, and is none of the night's other files; that it is STATE.rest is how a night goes on
 unfoldable pub isRead : List ℕ → List ℕ → List ℕ → List ℕ → Bool
@@ -95,6 +95,10 @@ isAmong name (part ∷ parts) = sameOf name part || isAmong name parts
 unfoldable pub isFurther : List ℕ → List ℕ → List ℕ → List ℕ → Bool
 isFurther file session state names =
     (((isPlace file && isBeside file state) && not (isOfState file state)) && not (sameOf file session)) && not (isAmong (lastOf file) (partsOf names))
+
+-- the area: STATE.area, which none of the other files may be, or a further file
+unfoldable pub isArea : List ℕ → List ℕ → List ℕ → List ℕ → Bool
+isArea file session state names = isWith file state (ascii ".area") || isFurther file session state names
 
 -- a file by its name, in STATE's folder
 unfoldable pub namedPlace : ℕ → List ℕ → List ℕ → ℕ → List ℕ

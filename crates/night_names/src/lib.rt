@@ -6,7 +6,7 @@ ghost use mathlib.Core.Path.{_≡_};
 ghost use lib.ListN.{length, take, drop};
 ghost use Rattle.io.specs.Counts.{Counts};
 ghost use Rattle.night_names.specs.Names.{beginsAt, lastAt, isPlace, isBeside, isWith, isOfState, isRead, areNames, partsOf, withName, namesOf, nameAt};
-ghost use Rattle.night_names.specs.Names.{filesOf, noneEmpty, areRecorded, isAmong, isFurther, namedPlace, placeOf, workOf};
+ghost use Rattle.night_names.specs.Names.{filesOf, noneEmpty, areRecorded, isAmong, isFurther, isArea, namedPlace, placeOf, workOf};
 
 // Where a name's last part begins, once a byte more was looked at: behind it if it is a `/`.
 fn begins(byte: u8, behind: usize, at: usize) -> usize
@@ -66,9 +66,10 @@ fn is_of_state(name: &[u8], state: &[u8]) -> bool
     let itself = same(name, state);
     let rest = is_with(name, state, b".rest");
     let names = is_with(name, state, b".names");
+    let area = is_with(name, state, b".area");
     let night = is_with(name, state, b".night");
     let done = is_with(name, state, b".done");
-    itself | rest | names | night | done
+    itself | rest | names | area | night | done
 }
 
 // Whether a session of this name is none of the night's other files.
@@ -246,6 +247,15 @@ pub fn is_further(file: &[u8], session: &[u8], state: &[u8], names: &[u8]) -> bo
     let read = same(file, session);
     let among = is_among(&file[at..], names);
     place & beside & !of_state & !read & !among
+}
+
+// Whether a night may have this area.
+pub fn is_area(file: &[u8], session: &[u8], state: &[u8], names: &[u8]) -> bool
+    ensures { λ r. ⌜ r ≡ isArea (now (file .entry)) (now (session .entry)) (now (state .entry)) (now (names .entry)) ⌝ }
+{
+    let of_state = is_with(file, state, b".area");
+    let further = is_further(file, session, state, names);
+    of_state | further
 }
 
 // The place of the file that has the name with this number.

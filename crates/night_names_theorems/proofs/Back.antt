@@ -17,21 +17,26 @@ use Rattle.night_arguments.specs.Arguments.{joinedOf}
 use Rattle.night_names.specs.Names.{lastAt, folderOf, lastOf, isPlace, isBeside, partsOf, withName, namesOf, nameAt, filesOf, noneEmpty, areRecorded, namedPlace, placeOf, workOf}
 use Rattle.night_names_theorems.proofs.Parts.{same-sound, last-plain, last-within, glued, cut-joined, uncut}
 
-joins : (a b : List ℕ) (room : ℕ) → length a + length b ≤ room → joinedOf a b room ≡ a ++ b
+pub joins : (a b : List ℕ) (room : ℕ) → length a + length b ≤ room → joinedOf a b room ≡ a ++ b
 unfolding joinedOf
 joins a b room h = passes _ _ (le-ltb _ _ h)
 
--- a place: its last part is there and not too long
-module _ (name : List ℕ) (p : isPlace name ≡ true) where
-  sized : (lastAt name < length name) × (length name ≤ 3833) × (length name - lastAt name ≤ 249)
-  unfolding isPlace
-  sized =
-      let u = both (ltb (lastAt name) (length name) && leb (length name) 3833) (leb (length name - lastAt name) 249) p in
-      let v = both (ltb (lastAt name) (length name)) (leb (length name) 3833) (u .0) in
-      (ltb-true _ _ (v .0), leb-true _ _ (v .1), leb-true _ _ (u .1))
+-- a file's name: its last part is there, and it is no longer than a place with `.area`
+abbrev pub Sized : List ℕ → Type 0
+Sized name = (lastAt name < length name) × (length name ≤ 3838) × (length name - lastAt name ≤ 254)
 
-  part-sized : length (lastOf name) ≡ length name - lastAt name
-  part-sized = length-drop (lastAt name) name
+pub place-within : (name : List ℕ) → isPlace name ≡ true → (lastAt name < length name) × (length name ≤ 3833) × (length name - lastAt name ≤ 249)
+unfolding isPlace
+place-within name p =
+    let u = both (ltb (lastAt name) (length name) && leb (length name) 3833) (leb (length name - lastAt name) 249) p in
+    let v = both (ltb (lastAt name) (length name)) (leb (length name) 3833) (u .0) in
+    (ltb-true _ _ (v .0), leb-true _ _ (v .1), leb-true _ _ (u .1))
+
+pub place-sized : (name : List ℕ) → isPlace name ≡ true → Sized name
+place-sized name p = let w = place-within name p in (w .0, omega (arith, w .1), omega (arith, w .2))
+
+part-sized : (name : List ℕ) → length (lastOf name) ≡ length name - lastAt name
+part-sized name = length-drop (lastAt name) name
 
 -- a name's folder and its last part are the name
 whole : (name state : List ℕ) → length name ≤ 4096 → isBeside name state ≡ true → joinedOf (folderOf state) (lastOf name) 4096 ≡ name
@@ -43,35 +48,35 @@ whole name state h q =
     ap (λ (f : List ℕ). joinedOf f (lastOf name) 4096) (sym (same-sound (folderOf name) (folderOf state) q))
     ∙ joins (folderOf name) (lastOf name) 4096 (omega arith) ∙ take-append-drop (lastAt name) name
 
--- The names that a night commits along tell its files: they are the last parts of these, in this order, and each is a place. First IMAGE and OUTPUT,
+-- The names that a night commits along tell its files: they are the last parts of these, in this order, and none is too long. First IMAGE and OUTPUT,
 -- then the further files.
 abbrev pub lasts : List (List ℕ) → List (List ℕ)
 lasts [] = []
 lasts (f ∷ fs) = lastOf f ∷ lasts fs
 
-abbrev pub Places : List (List ℕ) → Type 0
-Places [] = Unit
-Places (f ∷ fs) = (isPlace f ≡ true) × Places fs
+abbrev pub AllSized : List (List ℕ) → Type 0
+AllSized [] = Unit
+AllSized (f ∷ fs) = Sized f × AllSized fs
 
 abbrev pub Tells : List ℕ → List (List ℕ) → Type 0
-Tells names files = (partsOf names ≡ lasts files) × Places files
+Tells names files = (partsOf names ≡ lasts files) × AllSized files
 
 -- a further file's name comes after those that stand
-module _ (names file : List ℕ) (h : length names ≤ 3846) (p : isPlace file ≡ true) where
+module _ (names file : List ℕ) (h : length names ≤ 3841) (p : Sized file) where
   with-name : withName names file 4096 ≡ names ++ 47 ∷ lastOf file
   unfolding withName
   with-name =
-      let s = sized file p .2 in
-      let k = part-sized file p in
+      let s = p .2 in
+      let k = part-sized file in
       let m = length-append names (47 ∷ []) in
       ap (λ (f : List ℕ). joinedOf f (lastOf file) 4096) (joins names (47 ∷ []) 4096 (omega arith))
       ∙ joins (names ++ 47 ∷ []) (lastOf file) 4096 (omega arith) ∙ sym (glued names (lastOf file))
 
-  pub with-sized : length (withName names file 4096) ≤ length names + 250
+  pub with-sized : length (withName names file 4096) ≤ length names + 255
   with-sized =
       let e = ap length with-name in
-      let s = sized file p .2 in
-      let k = part-sized file p in
+      let s = p .2 in
+      let k = part-sized file in
       let m = length-append names (47 ∷ lastOf file) in
       let o = add-one (length (lastOf file)) in
       omega arith
@@ -87,19 +92,27 @@ module _ (names file : List ℕ) (h : length names ≤ 3846) (p : isPlace file �
       after [] = refl
       after (f ∷ fs) = ap (λ (ps : List (List ℕ)). lastOf f ∷ ps) (after fs)
 
-      all : (fs : List (List ℕ)) → Places fs → Places (fs ++ file ∷ [])
+      all : (fs : List (List ℕ)) → AllSized fs → AllSized (fs ++ file ∷ [])
       all [] q = (p, tt)
       all (f ∷ fs) q = (q .0, all fs (q .1))
 
-pub tells-two : (image output : List ℕ) → isPlace image ≡ true → isPlace output ≡ true → Tells (namesOf image output 4096) (image ∷ output ∷ [])
-unfolding namesOf
-tells-two image output p q =
-    tells-more (lastOf image) output (let s = sized image p .2 in let k = part-sized image p in omega arith) q (image ∷ [])
-    (uncut (lastOf image) (last-plain image), (p, tt))
+module _ (image output : List ℕ) (p : isPlace image ≡ true) (q : isPlace output ≡ true) where
+  short : length (lastOf image) ≤ 254
+  short = let s = place-sized image p .2 in let k = part-sized image in omega arith
+
+  pub two-sized : length (namesOf image output 4096) ≤ 509
+  unfolding namesOf
+  two-sized = let h = short in let k = with-sized (lastOf image) output (omega arith) (place-sized output q) in omega arith
+
+  pub tells-two : Tells (namesOf image output 4096) (image ∷ output ∷ [])
+  unfolding namesOf
+  tells-two =
+      tells-more (lastOf image) output (let h = short in omega arith) (place-sized output q) (image ∷ [])
+      (uncut (lastOf image) (last-plain image), (place-sized image p, tt))
 
 -- a call in the same folder finds each file's place, and takes the names
 module _ (names : List ℕ) (files : List (List ℕ)) (t : Tells names files) where
-  file-at : (k : ℕ) (fs : List (List ℕ)) → Places fs → k < length fs → (isPlace (getD fs k []) ≡ true) × (getD (lasts fs) k [] ≡ lastOf (getD fs k []))
+  file-at : (k : ℕ) (fs : List (List ℕ)) → AllSized fs → k < length fs → Sized (getD fs k []) × (getD (lasts fs) k [] ≡ lastOf (getD fs k []))
   file-at k [] q h = absurd (none-less h)
     where
       none-less : k < 0 → ⊥
@@ -113,7 +126,7 @@ module _ (names : List ℕ) (files : List (List ℕ)) (t : Tells names files) wh
     named-back k h e =
         let f = file-at k files (t .1) h in
         ap (λ (n : List ℕ). joinedOf (folderOf state) n 4096) (ap (λ (ps : List (List ℕ)). getD ps k []) (t .0) ∙ f .1)
-        ∙ whole (getD files k []) state (let s = sized (getD files k []) (f .0) .1 in omega arith) e
+        ∙ whole (getD files k []) state (let s = f .0 .1 in omega arith) e
 
     pub image-back : 0 < length files → isBeside (getD files 0 []) state ≡ true → placeOf 0 state names 4096 ≡ getD files 0 []
     unfolding placeOf
@@ -145,11 +158,11 @@ module _ (names : List ℕ) (files : List (List ℕ)) (t : Tells names files) wh
       let e = files-back h in
       rw (le-leb 5 (filesOf names) (omega arith), le-leb (filesOf names) 254 (omega arith), t .0) (whole-parts files (t .1))
     where
-      whole-parts : (fs : List (List ℕ)) → Places fs → noneEmpty (lasts fs) ≡ true
+      whole-parts : (fs : List (List ℕ)) → AllSized fs → noneEmpty (lasts fs) ≡ true
       whole-parts [] q = refl
       whole-parts (f ∷ fs) q =
-          let s = sized f (q .0) .0 in
-          let k = part-sized f (q .0) in
+          let s = q .0 .0 in
+          let k = part-sized f in
           ap (λ (b : Bool). b && noneEmpty (lasts fs)) (lt-ltb 0 (length (lastOf f)) (omega arith)) ∙ whole-parts fs (q .1)
 
 -- two places in STATE's folder for which one file of STATE.night/ or STATE.done/ stands are one place

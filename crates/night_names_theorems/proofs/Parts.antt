@@ -1,13 +1,13 @@
 -- A name's last part has no `/`; a text that is cut at each `/`, where two are joined by one. Assumes nothing.
 use Prim.Native.Nat.{ℕ, _+_, _≤_, _<_}
 use native.Mathlib.Omega.{arith}
-use mathlib.Core.Bool.{Bool, true, false, cond, true≢false}
+use mathlib.Core.Bool.{Bool, true, false, _&&_, cond, true≢false}
 use mathlib.Core.List.{List, [], _∷_, _++_}
 use mathlib.Core.Path.{_≡_, refl, sym, ap, subst, _∙_}
 use lib.Dec.{eqb}
 use lib.ListN.{length, drop, length-append}
 use lib.Seq.{drop-at}
-use borrow.Author.Tests.{eqb-true}
+use borrow.Author.Tests.{eq-eqb, eqb-true}
 use Rattle.laws.proofs.Bools.{both}
 use Rattle.laws.proofs.Conds.{passes}
 use Rattle.night_arguments.specs.Arguments.{sameOf}
@@ -24,6 +24,11 @@ same-sound (x ∷ xs) (y ∷ ys) e =
     let p = both (eqb x y) (sameOf xs ys) e in
     ap (λ (z : ℕ). z ∷ xs) (eqb-true x y (p .0)) ∙ ap (λ (zs : List ℕ). y ∷ zs) (same-sound xs ys (p .1))
 
+pub same-self : (l : List ℕ) → sameOf l l ≡ true
+unfolding sameOf
+same-self [] = refl
+same-self (x ∷ xs) = ap (λ (b : Bool). b && sameOf xs xs) (eq-eqb x x refl) ∙ same-self xs
+
 -- no byte is a `/`
 abbrev pub NoSlash : List ℕ → Type 0
 NoSlash [] = Unit
@@ -33,6 +38,11 @@ pub last-none : (l : List ℕ) (i at : ℕ) → NoSlash l → lastFrom i at l �
 unfolding lastFrom
 last-none [] i at n = refl
 last-none (c ∷ cs) i at n = ap (λ (b : Bool). lastFrom (i + 1) (cond b (i + 1) at) cs) (n .0) ∙ last-none cs (i + 1) at (n .1)
+
+pub last-kept : (a b : List ℕ) (i at : ℕ) → NoSlash b → lastFrom i at (a ++ b) ≡ lastFrom i at a
+unfolding lastFrom
+last-kept [] b i at n = last-none b i at n
+last-kept (c ∷ cs) b i at n = last-kept cs b (i + 1) (cond (eqb c 47) (i + 1) at) n
 
 pub last-after : (a b : List ℕ) (i at : ℕ) → NoSlash b → lastFrom i at (a ++ 47 ∷ b) ≡ i + (length a + 1)
 unfolding lastFrom

@@ -1,6 +1,7 @@
 // The recovery on prepared folders, one for each case, in data/: STATE.done with all, some and none of its files, with other names, without names, with
-// one name; STATE.night standing; a call that has an earlier night's names. Then a whole night, one that did not run, two that fail; and recoveries and a night
-// with a further file, the log. The old files hold `old` and the new ones `new`. Last the names that a call may have.
+// one name; STATE.night standing; a call that has an earlier night's names. Then a whole night, one that did not run, two that fail; recoveries of nights
+// with further files, the area and the log, and such nights. The old files hold `old` and the new ones `new`; those that a night makes here each hold a
+// word of their own. Last the names that a call may have.
 use night_steps::Op;
 use printing::Line;
 
@@ -31,7 +32,7 @@ fn show(case: &[u8], name: &[u8]) {
         Line::empty().text(b" -").print();
         return;
     }
-    let mut word = [0u8; 16];
+    let mut word = [0u8; 64];
     let count = io::read_full(fd, &mut word);
     libc::close(fd);
     Line::empty().text(b" ").text(&word[..count]).print();
@@ -90,15 +91,22 @@ fn call(case: &[u8]) {
 fn end_with(case: &[u8], ran: bool, names: &[u8]) {
     let mut state = io::buffer();
     let n = night_arguments::joined(case, b"/state", &mut state);
-    let new = *b"new";
-    show_case(
-        case,
-        night_commit::finish(ran, &state[..n], names, &new, &new, &new, &new, &new),
+    let end = night_commit::finish(
+        ran,
+        &state[..n],
+        names,
+        b"image",
+        b"machine",
+        b"rest",
+        b"output",
+        b"area",
+        b"log",
     );
+    show_case(case, end);
 }
 
 fn end(case: &[u8], ran: bool) {
-    end_with(case, ran, b"image/output");
+    end_with(case, ran, b"image/output/state.area");
 }
 
 fn recoveries() {
@@ -134,6 +142,7 @@ fn refusals() {
 fn nights() {
     call(b"whole");
     end(b"whole", true);
+    show_further(b"whole");
     call(b"refused");
     end(b"refused", false);
     call(b"unmade");
@@ -144,38 +153,60 @@ fn nights() {
     end(b"cleaned", true);
 }
 
-fn show_log(case: &[u8]) {
+fn show_further(case: &[u8]) {
+    show(case, b"/state.area");
     show(case, b"/log");
-    Line::empty().text(b" is the log\n").print();
+    Line::empty().text(b" are area and log\n").print();
 }
 
-fn call_logged(case: &[u8]) {
+fn call_further(case: &[u8]) {
     call(case);
-    show_log(case);
+    show_further(case);
 }
 
-// The log is still in STATE.done, with the others or alone; it is there already; its name is empty. Then a night with a log, and one without.
-fn logs() {
-    call_logged(b"logged");
-    call_logged(b"partly");
-    call_logged(b"logless");
-    call_logged(b"gap");
+fn end_further(case: &[u8], names: &[u8]) {
+    end_with(case, true, names);
+    show_further(case);
+}
+
+// Nights from before there was an area: the log is still in STATE.done, with the others or alone; it is there already; its name is empty.
+fn earlier() {
+    call_further(b"logged");
+    call_further(b"partly");
+    call_further(b"logless");
+    call_further(b"gap");
+}
+
+// The area is still in STATE.done, with the others or with the log. Then a night without a log, one with it, and one with a file too many.
+fn areas() {
+    call_further(b"area");
+    call_further(b"pair");
     call(b"kept");
-    end(b"kept", true);
-    show_log(b"kept");
+    end_further(b"kept", b"image/output/state.area");
     call(b"kept");
-    end_with(b"kept", true, b"image/output/log");
-    show_log(b"kept");
+    end_further(b"kept", b"image/output/state.area/log");
+    call(b"kept");
+    end_further(b"kept", b"image/output/state.area/log/more");
+}
+
+// One of two words, by a test.
+fn show_which(word: &[u8], holds: bool, yes: &[u8], no: &[u8]) {
+    Line::empty().text(word).print();
+    if holds {
+        Line::empty().text(yes).print();
+        return;
+    }
+    Line::empty().text(no).print();
 }
 
 // Whether a place is a folder.
 fn show_any(word: &[u8], state: &[u8], names: &[u8]) {
-    Line::empty().text(word).print();
-    if night_commit::has_folder(state, names) {
-        Line::empty().text(b": a folder\n").print();
-        return;
-    }
-    Line::empty().text(b": no folder\n").print();
+    show_which(
+        word,
+        night_commit::has_folder(state, names),
+        b": a folder\n",
+        b": no folder\n",
+    );
 }
 
 fn places() {
@@ -190,12 +221,12 @@ fn places() {
 
 // Whether a call may have these names.
 fn show_names(word: &[u8], image: &[u8], session: &[u8], state: &[u8], output: &[u8]) {
-    Line::empty().text(word).print();
-    if night_names::are_names(image, session, state, output) {
-        Line::empty().text(b": names\n").print();
-        return;
-    }
-    Line::empty().text(b": no names\n").print();
+    show_which(
+        word,
+        night_names::are_names(image, session, state, output),
+        b": names\n",
+        b": no names\n",
+    );
 }
 
 // One name for a file and another text for each of the others.
@@ -218,6 +249,7 @@ fn images() {
     show_image(b"image is state", b"m");
     show_image(b"image is output", b"o");
     show_image(b"image is names", b"m.names");
+    show_image(b"image is area", b"m.area");
 }
 
 fn sessions() {
@@ -227,12 +259,14 @@ fn sessions() {
     show_session(b"session is state", b"m");
     show_session(b"session is output", b"o");
     show_session(b"session is names", b"m.names");
+    show_session(b"session is area", b"m.area");
 }
 
 fn outputs() {
     show_output(b"no output", b"");
     show_output(b"output elsewhere", b"./o");
     show_output(b"output is rest", b"m.rest");
+    show_output(b"output is area", b"m.area");
     show_output(b"output is night", b"m.night");
     show_output(b"output is done", b"m.done");
 }
@@ -243,30 +277,67 @@ fn folders() {
     show_names(b"no state", b"i", b"s", b"", b"o");
 }
 
-// A last part of 249 bytes, and one of 250: as long as it may be, and longer.
+// Whether a night on this state may have this area.
+fn show_area_of(word: &[u8], file: &[u8], state: &[u8]) {
+    show_which(
+        word,
+        night_names::is_area(file, b"s", state, b"i/o"),
+        b": an area\n",
+        b": none\n",
+    );
+}
+
+fn show_area(word: &[u8], file: &[u8]) {
+    show_area_of(word, file, b"m");
+}
+
+fn area_names() {
+    show_area(b"area", b"a");
+    show_area(b"area of state", b"m.area");
+    show_area(b"no area", b"");
+    show_area(b"area elsewhere", b"./m.area");
+    show_area(b"area is image", b"i");
+    show_area(b"area is session", b"s");
+    show_area(b"area is output", b"o");
+}
+
+fn areas_of_state() {
+    show_area(b"area is state", b"m");
+    show_area(b"area is rest", b"m.rest");
+    show_area(b"area is names", b"m.names");
+    show_area(b"area is night", b"m.night");
+    show_area(b"area is done", b"m.done");
+}
+
+// A last part of 249 bytes, and one of 250: as long as it may be, and longer. Its area's is longer still.
 fn long_parts() {
     let part = [97u8; 250];
     show_image(b"part of 249", &part[..249]);
     show_image(b"part of 250", &part);
+    show_area(b"area of 250", &part);
+    let mut area = io::buffer();
+    let n = night_arguments::joined(&part[..249], b".area", &mut area);
+    show_area_of(b"area of a state of 249", &area[..n], &part[..249]);
 }
 
-// Whether a night may have this further file.
-fn show_further(word: &[u8], file: &[u8]) {
-    Line::empty().text(word).print();
-    if night_names::is_further(file, b"s", b"m", b"i/o/f") {
-        Line::empty().text(b": a further one\n").print();
-        return;
-    }
-    Line::empty().text(b": none\n").print();
+// Whether a night may have this log.
+fn show_log(word: &[u8], file: &[u8]) {
+    show_which(
+        word,
+        night_names::is_further(file, b"s", b"m", b"i/o/f"),
+        b": a further one\n",
+        b": none\n",
+    );
 }
 
-fn further() {
-    show_further(b"log", b"l");
-    show_further(b"log is image", b"i");
-    show_further(b"log is output", b"o");
-    show_further(b"log is a further one", b"f");
-    show_further(b"log is session", b"s");
-    show_further(b"log is done", b"m.done");
+fn logs() {
+    show_log(b"log", b"l");
+    show_log(b"log is image", b"i");
+    show_log(b"log is output", b"o");
+    show_log(b"log is a further one", b"f");
+    show_log(b"log is session", b"s");
+    show_log(b"log is area", b"m.area");
+    show_log(b"log is done", b"m.done");
 }
 
 fn texts() {
@@ -274,8 +345,10 @@ fn texts() {
     sessions();
     outputs();
     folders();
+    area_names();
+    areas_of_state();
     long_parts();
-    further();
+    logs();
 }
 
 fn main() {
@@ -283,7 +356,8 @@ fn main() {
     stale();
     refusals();
     nights();
-    logs();
+    earlier();
+    areas();
     places();
     texts();
 }

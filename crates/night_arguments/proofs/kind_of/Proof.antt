@@ -24,7 +24,35 @@ kind-of-spec =
     let d = c .before .before .before in
     let e = d .before .before .before in
     rw (← e .before .before .before .front .ensures, ← e .before .same .ensures, e .if1 .left, ← d .before .same2 .ensures, d .if2 .left, ← c .before .same3 .ensures, c .if3 .taken))  -- returns-3
+    (λ c. search needs)  -- slice-aggregate-same-4
+    (λ c κs. search needs)  -- same-requires-4
     (λ c.
     let d = c .before .before .before in
     let e = d .before .before .before in
-    rw (← e .before .before .before .front .ensures, ← e .before .same .ensures, e .if1 .left, ← d .before .same2 .ensures, d .if2 .left, ← c .before .same3 .ensures, c .if3 .left)))  -- returns-4
+    let f = e .before .before .before in
+    rw (
+      ← f .before .before .before .front .ensures,
+      ← f .before .same .ensures,
+      f .if1 .left,
+      ← e .before .same2 .ensures,
+      e .if2 .left,
+      ← d .before .same3 .ensures,
+      d .if3 .left,
+      ← c .before .same4 .ensures,
+      c .if4 .taken,
+    ))  -- returns-4
+    (λ c.
+    let d = c .before .before .before in
+    let e = d .before .before .before in
+    let f = e .before .before .before in
+    rw (
+      ← f .before .before .before .front .ensures,
+      ← f .before .same .ensures,
+      f .if1 .left,
+      ← e .before .same2 .ensures,
+      e .if2 .left,
+      ← d .before .same3 .ensures,
+      d .if3 .left,
+      ← c .before .same4 .ensures,
+      c .if4 .left,
+    )))  -- returns-5

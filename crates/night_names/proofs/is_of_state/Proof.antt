@@ -18,8 +18,18 @@ is-of-state-spec =
     (λ c κs. search needs)  -- is-with-requires-3
     (λ c. search needs)  -- slice-aggregate-is-with-4
     (λ c κs. search needs)  -- is-with-requires-4
+    (λ c. search needs)  -- slice-aggregate-is-with-5
+    (λ c κs. search needs)  -- is-with-requires-5
     (λ c.
-    let p = c .before .before in
+    let o = c .before .before in
+    let p = o .before .before in
     let q = p .before .before in
     let r = q .before .before in
-    rw (r .before .before .same .ensures, r .is-with .ensures, q .is-with2 .ensures, p .is-with3 .ensures, c .is-with4 .ensures)))  -- returns
+    rw (
+      r .before .before .same .ensures,
+      r .is-with .ensures,
+      q .is-with2 .ensures,
+      p .is-with3 .ensures,
+      o .is-with4 .ensures,
+      c .is-with5 .ensures,
+    )))  -- returns
