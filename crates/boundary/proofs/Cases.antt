@@ -158,8 +158,8 @@ module _ (logs : Bool) (s : State) (log : List ℕ) where
 
   pub lacks-due : {cause : Cause} → logs ≡ true → fitsRow log (s .entries .0) ≡ false → pendingOf (s .machine) ≡ Due cause → Lacks true
   lacks-due {cause} a f d = (
-    (λ _ since i o.
-        let l = lending i o log in
+    (λ _ since i area o.
+        let l = lending i area o log in
         let watch : Watch = record { log = logs; since = since } in
         act-accepts s l watch d ∙ accept-stops s l watch cause (ap (λ (b : Bool). b && not (fitsRow log (s .entries .0))) a ∙ ap not f)),
     (λ e. absurd (true≢false e)),

@@ -1,4 +1,4 @@
--- What a run keeps, and where it ends: its image's length, its cycles, its counts and its place
+-- What a run keeps, and where it ends: its memories' lengths, its cycles, its counts and its place
 -- in the session. Assumes nothing.
 use Prim.Native.Nat.{ℕ, _+_, _≤_, _<_}
 use native.Mathlib.Omega.{arith}
@@ -10,7 +10,7 @@ use Rattle.session.specs.Session.{checkFrom, checkOf, timeAt}
 use Rattle.session.specs.declared.Checked.the-variants.{Sound}
 use Rattle.session.proofs.Laws.{next-after, Step, sound-step, due-there}
 use Rattle.machine.specs.declared.Machine.{Machine}
-use Rattle.machine.proofs.Steps.{step-cycles, step-length, entered-length}
+use Rattle.machine.proofs.Steps.{step-cycles, step-spared, entered-spared}
 use Rattle.boundary.specs.World.{Lent, memoriesIn, Terms, World, Ended}
 use Rattle.boundary.specs.Boundary.{recordTaken, sentState, enteredWorld, waitedState, runOf}
 use Rattle.boundary.specs.Counts.{Fine}
@@ -22,20 +22,25 @@ use Rattle.boundary.proofs.Cases.{entry-most, records-cycles}
 use Rattle.boundary.proofs.Runs.{act-cases, boundary-cases, run-keeps, turn-fine}
 use Rattle.boundary.proofs.Keeps.{Keeps, run-holds}
 
--- the image's length is kept
-lengths : (t : Terms) (k : ℕ) → Keeps t (λ w. length (w .lent .image) ≡ k)
+-- the lengths of the memories are kept
+abbrev pub SameLengths : Lent → Lent → Type 0
+SameLengths l k = (length (k .image) ≡ length (l .image)) × (length (k .area) ≡ length (l .area))
+
+lengths : (t : Terms) (l : Lent) → Keeps t (λ w. SameLengths l (w .lent))
 unfolding recordTaken sentState enteredWorld waitedState
-lengths t k =
+lengths t l =
     record {
       applied = λ w d h. h;
-      sent = λ w l h. h;
-      entered = λ w cause e f l h. entered-length cause (memoriesIn (w .lent)) (w .state .machine) ∙ h;
-      waited = λ w f l h. h;
-      stepped = λ w i f e l h. step-length i (memoriesIn (w .lent)) (w .state .machine) ∙ h;
+      sent = λ w b h. h;
+      entered = λ w cause e f b h.
+          let s = entered-spared cause (memoriesIn (w .lent)) (w .state .machine) in
+          (s .image-length ∙ h .0, s .area-length ∙ h .1);
+      waited = λ w f b h. h;
+      stepped = λ w i f e b h. let s = step-spared i (memoriesIn (w .lent)) (w .state .machine) in (s .image-length ∙ h .0, s .area-length ∙ h .1);
     }
 
-pub image-length : (t : Terms) (w : World) → length (runOf t w .world .lent .image) ≡ length (w .lent .image)
-image-length t w = run-holds t (λ v. length (v .lent .image) ≡ length (w .lent .image)) (lengths t (length (w .lent .image))) w refl
+pub same-lengths : (t : Terms) (w : World) → SameLengths (w .lent) (runOf t w .world .lent)
+same-lengths t w = run-holds t (λ v. SameLengths (w .lent) (v .lent)) (lengths t (w .lent)) w (refl, refl)
 
 -- a step or an entry takes at most 12 cycles, so that a run ends at most 11 past its limit
 below : (t : Terms) → Keeps t (λ w. w .state .cycles .0 ≤ t .limit + 11)

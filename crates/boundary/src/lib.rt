@@ -260,7 +260,8 @@ impl State {
     fn step(self, image: &mut [u8], area: &mut [u8]) -> Turned
         requires { ⌜ Ready self ⌝ }
         ensures { λ r. ⌜ ((l : Lent) → turned r (withMemories l (memories (now (image .exit)) (now (area .exit))))
-            ≡ executedOf (lookOf (memories (now (image .entry)) (now (area .entry))) (self .machine)) (worldOf self (withMemories l (memories (now (image .entry)) (now (area .entry)))))) ⌝ }
+            ≡ executedOf (lookOf (memories (now (image .entry)) (now (area .entry))) (self .machine))
+            (worldOf self (withMemories l (memories (now (image .entry)) (now (area .entry)))))) ⌝ }
     {
         let look = self.machine.look(image, area);
         match look {

@@ -13,12 +13,12 @@ log-entry-spec =
     (λ c κs. search needs)  -- row-requires
     (λ c κs.
     let a = c .before .before .before .before .args in
-    row-fits (a .self) (lending [] [] (a .log .now)) (a .watch) (c .before .before .if1 .taken) (c .before .before .before .before .pre))  -- write-row-requires
+    row-fits (a .self) (lending [] [] [] (a .log .now)) (a .watch) (c .before .before .if1 .taken) (c .before .before .before .before .pre))  -- write-row-requires
     (λ c. search needs)  -- same-length
     (λ c.
     let d = c .before .before .before in
     let a = d .before .before .before .before .args in
-    logs (a .self) (lending [] [] (a .log .now)) (a .watch) (a .cause) (d .before .before .if1 .taken) (d .row .ensures) (c .before .before .write-row .ensures))  -- returns
+    logs (a .self) (lending [] [] [] (a .log .now)) (a .watch) (a .cause) (d .before .before .if1 .taken) (d .row .ensures) (c .before .before .write-row .ensures))  -- returns
     (λ c.
     let a = c .before .before .args in
-    logs-not (a .self) (lending [] [] (a .log .now)) (a .watch) (a .cause) (c .if1 .left)))  -- returns-2
+    logs-not (a .self) (lending [] [] [] (a .log .now)) (a .watch) (a .cause) (c .if1 .left)))  -- returns-2
