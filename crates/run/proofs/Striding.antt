@@ -2,6 +2,7 @@
 use Prim.Native.Nat.{ℕ, _+_, _-_, _≤_, _<_}
 use native.Mathlib.Omega.{arith}
 use mathlib.Core.Bool.{Bool, true, false, not, _&&_, _||_, Bool·beq, true≢false}
+use mathlib.Core.List.{List}
 use mathlib.Core.Path.{_≡_, refl, sym, ap, subst, _∙_}
 use lib.Dec.{leb, eqb}
 use borrow.Author.Tests.{leb-false, ne-eqb}
@@ -12,7 +13,7 @@ use Rattle.serial.specs.Serial.{ticksSerial, serialRequest}
 use Rattle.registers.specs.declared.Registers.{Registers}
 use Rattle.registers.specs.Registers.{idles}
 use Rattle.bus.specs.declared.Bus.{Bus}
-use Rattle.bus.specs.Access.{Memories}
+use Rattle.bus.specs.Access.{Memories, memories}
 use Rattle.bus.specs.Units.{passed}
 use Rattle.bus.proofs.Ranges as bus
 use Rattle.chip.specs.Act.{out}
@@ -21,7 +22,7 @@ use Rattle.machine.specs.declared.Look.{Look}
 use Rattle.machine.specs.Machine.{onChip, passedOf}
 use Rattle.machine.specs.Interrupts.{pendingOf}
 use Rattle.machine.specs.Steps.{Stepped}
-use Rattle.plain.specs.Plainly.{Steps, Hopped}
+use Rattle.plain.specs.Plainly.{floorOf, Steps, Hopped}
 use Rattle.boundary.specs.declared.State.{State}
 use Rattle.boundary.specs.World.{Lent, memoriesIn, withMemories, Terms, worldOf, grown, grownTo}
 use Rattle.boundary.specs.Boundary.{sendOf, steppedWorld, executedOf, boundaryOf}
@@ -97,30 +98,30 @@ below-room room cycles a b on = leb-false room cycles (neither (leb room cycles)
 
 module _ (t : Terms) (s : State) where
   -- one turn of the stride
-  pub strides : (room : ℕ) (c e : Registers) (j i k : ℕ) (start memory after : Memories) {idle : Bool}
+  pub strides : (room : ℕ) (c e : Registers) (j i k floor : ℕ) (start image after : List ℕ) {idle : Bool}
       → First (t .limit - s .cycles .0) room (stirs (t .session) s)
       → idle ≡ idles c → ends room j idle (c .codes .i) (s .machine .chip .registers .codes .i) ≡ false
-      → Hopped (s .machine .chip .bus .r) c memory k e after
-      → Goes t s start (strodeOf s c j i) memory → Goes t s start (strodeOf s e (j + k) (i + 1)) after
+      → floor ≡ floorOf (s .machine .chip .bus .rame) → Hopped floor (s .machine .chip .bus .r) c image k e after
+      → Goes t s start (strodeOf s c j i) image → Goes t s start (strodeOf s e (j + k) (i + 1)) after
   unfolding passed
-  strides room c e j i k start memory after {idle} first told on hopped goes l =
+  strides room c e j i k floor start image after {idle} first told on plain hopped goes l =
       let q = neither (leb room j || idle) _ on in
       let p = neither (leb room j) _ (q .0) in
       let b = below-room room j _ _ on in
       let w = first .within in
       goes l
       ∙ run-more t _
-      (stride-turn t s c e j i k memory after l (omega arith) (first .before j b) (sym told ∙ p .1) (alike _ _ (q .1))
-      (hopped .hops (passed j (s .machine .chip .bus)) (s .machine .irq1) (s .machine .nmi) refl))
+      (stride-turn t s c e j i k (memories image (l .area)) (memories after (l .area)) l (omega arith) (first .before j b) (sym told ∙ p .1) (alike _ _ (q .1))
+      (hopped .hops (passed j (s .machine .chip .bus)) (l .area) (s .machine .irq1) (s .machine .nmi) (omega arith) refl))
 
-  pub stride-ends : (c : Registers) (j i : ℕ) (start memory after : Memories) {r : State} → Fine s → i ≤ j
-      → Goes t s start (strodeOf s c j i) memory → after ≡ memory → r ≡ strodeOf s c j i → Paced t s start r after
-  stride-ends c j i start memory after f l goes e q =
+  pub stride-ends : (c : Registers) (j i : ℕ) (start image after : List ℕ) {r : State} → Fine s → i ≤ j
+      → Goes t s start (strodeOf s c j i) image → after ≡ image → r ≡ strodeOf s c j i → Paced t s start r after
+  stride-ends c j i start image after f l goes e q =
       let x = f .instructions in
       let y = f .entries in
       let z = f .leaps in
       subst (λ (v : State). Paced t s start v after) (sym q)
-      (subst (λ (v : Memories). Paced t s start (strodeOf s c j i) v) (sym e)
+      (subst (λ (v : List ℕ). Paced t s start (strodeOf s c j i) v) (sym e)
       (record { instructions = omega arith; entries = omega arith; leaps = omega arith; used = f .used }, omega arith, goes))
 
 -- the stride's cycles are within the limit but for its last instruction, so no count can pass its type
