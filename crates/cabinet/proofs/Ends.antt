@@ -1,8 +1,8 @@
--- The ways that a public run can end, each as a law: the four tests in their order, a refusal, and the run. Assumes nothing.
+-- The ways that a public run can end, each as a law: the five tests in their order, a refusal, and the run. Assumes nothing.
 use Prim.Native.Nat.{ℕ, _≤_, _<_}
 use native.Mathlib.Omega.{arith}
 use mathlib.Core.Path.{_≡_, refl, sym, ap, subst, _∙_}
-use mathlib.Core.Bool.{Bool, true, false, not, true≢false}
+use mathlib.Core.Bool.{Bool, true, false, not, cond}
 use mathlib.Core.Option.{Option, none, some}
 use lib.Dec.{eqb, ltb}
 use lib.ListN.{length}
@@ -15,7 +15,7 @@ use Rattle.session.specs.declared.Fault.the-variants as fault
 use Rattle.session.specs.declared.Checked.{Checked}
 use Rattle.session.specs.declared.Checked.the-variants.{Sound, Bad}
 use Rattle.replies.specs.declared.Reply.{Reply}
-use Rattle.replies.specs.Replies.{Told, told, toldReply, toldFault, toldCheck, stops}
+use Rattle.replies.specs.Replies.{Told, told, toldReply, toldFault, toldCheck}
 use Rattle.machine.specs.declared.Machine.{Machine}
 use Rattle.machine.specs.Machine.{Ranges, rangesOf}
 use Rattle.machine.proofs.Ranges.{ranges-say}
@@ -33,6 +33,10 @@ use Rattle.cabinet.specs.Answers.{toldAdmission, toldStop, refusalOf, En
 pub start-fine : (m : Machine) {s : State} → s ≡ startOf m → Fine s
 start-fine m e = subst Fine (sym e) (record { instructions = omega arith; entries = omega arith; leaps = omega arith; used = omega arith })
 
+-- what 1 and 12 let pass
+abbrev pub Lengths : Lent → Type 0
+Lengths l = (length (l .image) ≡ 65536) × (length (l .area) ≡ 128)
+
 module _ (asked : Terms) (m : Machine) (given : Lent) where
   abbrev Refuses : Option Told → Type 0
   Refuses t = refusalOf asked m given ≡ t
@@ -41,50 +45,62 @@ module _ (asked : Terms) (m : Machine) (given : Lent) where
   unfolding refusalOf
   refuses-1 l = picks _ _ (ap not (ne-eqb _ _ l))
 
-  module _ (l : length (given .image) ≡ 65536) where
-    right-image : not (eqb (length (given .image)) 65536) ≡ false
-    right-image = ap not (eq-eqb _ _ l)
+  pub refuses-12 : length (given .image) ≡ 65536 → (length (given .area) ≡ 128 → ⊥) → Refuses (some (told 12 none))
+  unfolding refusalOf
+  refuses-12 l k = passes _ _ (ap not (eq-eqb _ _ l)) ∙ picks _ _ (ap not (ne-eqb _ _ k))
+
+  module _ (l : Lengths given) where
+    -- with both lengths right the next tests decide
+    right-lengths : {x y z : Option Told}
+        → cond (not (eqb (length (given .image)) 65536)) x (cond (not (eqb (length (given .area)) 128)) y z) ≡ z
+    right-lengths = passes _ _ (ap not (eq-eqb _ _ (l .0))) ∙ passes _ _ (ap not (eq-eqb _ _ (l .1)))
 
     pub refuses-2 : rangesOf m ≡ false → Refuses (some (told 2 none))
     unfolding refusalOf
-    refuses-2 r = passes _ _ right-image ∙ picks _ _ (ap not r)
+    refuses-2 r = right-lengths ∙ picks _ _ (ap not r)
 
     module _ (r : rangesOf m ≡ true) where
       pub refuses-3 : 1000000000 < asked .limit → Refuses (some (told 3 none))
       unfolding refusalOf
-      refuses-3 h = passes _ _ right-image ∙ passes _ _ (ap not r) ∙ picks _ _ (lt-ltb _ _ h)
+      refuses-3 h = right-lengths ∙ passes _ _ (ap not r) ∙ picks _ _ (lt-ltb _ _ h)
 
       pub session-decides : asked .limit ≤ 1000000000 → Refuses (toldCheck (checkOf (asked .session)))
       unfolding refusalOf
-      session-decides h = passes _ _ right-image ∙ passes _ _ (ap not r) ∙ passes _ _ (le-ltb _ _ h)
+      session-decides h = right-lengths ∙ passes _ _ (ap not r) ∙ passes _ _ (le-ltb _ _ h)
 
-  -- what the first three tests let pass
+  -- what the first four tests let pass
   pub record Passed : Type 0 where
-    pub image-long : length (given .image) ≡ 65536
+    pub lengths : Lengths given
     pub in-ranges : Ranges (m .chip .bus)
     pub within : asked .limit ≤ 1000000000
 
   pub refusal-cases : (P : Option Told → Type 0)
       → ((length (given .image) ≡ 65536 → ⊥) → P (some (told 1 none)))
-      → (length (given .image) ≡ 65536 → rangesOf m ≡ false → P (some (told 2 none)))
-      → (length (given .image) ≡ 65536 → rangesOf m ≡ true → 1000000000 < asked .limit → P (some (told 3 none)))
+      → (length (given .image) ≡ 65536 → (length (given .area) ≡ 128 → ⊥) → P (some (told 12 none)))
+      → (Lengths given → rangesOf m ≡ false → P (some (told 2 none)))
+      → (Lengths given → rangesOf m ≡ true → 1000000000 < asked .limit → P (some (told 3 none)))
       → (Passed → P (toldCheck (checkOf (asked .session))))
       → P (refusalOf asked m given)
-  refusal-cases P p q s t = by (eqb (length (given .image)) 65536) refl (rangesOf m) refl (ltb 1000000000 (asked .limit)) refl
+  refusal-cases P p a q s t =
+      by (eqb (length (given .image)) 65536) refl (eqb (length (given .area)) 128) refl (rangesOf m) refl (ltb 1000000000 (asked .limit)) refl
     where
-      by : (long : Bool) → eqb (length (given .image)) 65536 ≡ long → (fits : Bool) → rangesOf m ≡ fits → (over : Bool) → ltb 1000000000 (asked .limit) ≡ over
-          → P (refusalOf asked m given)
-      by false e fits f over g = let l = eqb-false _ _ e in subst P (sym (refuses-1 l)) (p l)
-      by true e false f over g = let l = eqb-true _ _ e in subst P (sym (refuses-2 l f)) (q l f)
-      by true e true f true g = let l = eqb-true _ _ e in let h = ltb-true _ _ g in subst P (sym (refuses-3 l f h)) (s l f h)
-      by true e true f false g =
-          let l = eqb-true _ _ e in
+      by : (long : Bool) → eqb (length (given .image)) 65536 ≡ long → (wide : Bool) → eqb (length (given .area)) 128 ≡ wide
+          → (fits : Bool) → rangesOf m ≡ fits → (over : Bool) → ltb 1000000000 (asked .limit) ≡ over → P (refusalOf asked m given)
+      by false e wide k fits f over g = let l = eqb-false _ _ e in subst P (sym (refuses-1 l)) (p l)
+      by true e false k fits f over g = let l = eqb-true _ _ e in let n = eqb-false _ _ k in subst P (sym (refuses-12 l n)) (a l n)
+      by true e true k false f over g = let l = (eqb-true _ _ e, eqb-true _ _ k) in subst P (sym (refuses-2 l f)) (q l f)
+      by true e true k true f true g =
+          let l = (eqb-true _ _ e, eqb-true _ _ k) in
+          let h = ltb-true _ _ g in
+          subst P (sym (refuses-3 l f h)) (s l f h)
+      by true e true k true f false g =
+          let l = (eqb-true _ _ e, eqb-true _ _ k) in
           let h = ltb-false _ _ g in
-          subst P (sym (session-decides l f h)) (t (record { image-long = l; in-ranges = ranges-say (m .chip .bus) f; within = h }))
+          subst P (sym (session-decides l f h)) (t (record { lengths = l; in-ranges = ranges-say (m .chip .bus) f; within = h }))
 
   pub admitted-within : Refuses none → asked .limit ≤ 1000000000
   admitted-within =
-      refusal-cases (λ t. t ≡ none → asked .limit ≤ 1000000000) (λ l. some-none) (λ l r. some-none) (λ l r h. some-none) (λ p e. p .within)
+      refusal-cases (λ t. t ≡ none → asked .limit ≤ 1000000000) (λ l. some-none) (λ l k. some-none) (λ l r. some-none) (λ l r h. some-none) (λ p e. p .within)
 
   -- a refusal leaves the start
   pub end-refused : {t : Told} → Refuses (some t) → endOf asked m given ≡ endAt t (startWorld m given)
@@ -117,14 +133,15 @@ module _ (asked : Terms) (m : Machine) (given : Lent) where
   -- each way that a public run can end
   pub end-cases : (P : End → Type 0)
       → ((length (given .image) ≡ 65536 → ⊥) → P (endAt (told 1 none) (startWorld m given)))
-      → (length (given .image) ≡ 65536 → rangesOf m ≡ false → P (endAt (told 2 none) (startWorld m given)))
-      → (length (given .image) ≡ 65536 → rangesOf m ≡ true → 1000000000 < asked .limit → P (endAt (told 3 none) (startWorld m given)))
+      → (length (given .image) ≡ 65536 → (length (given .area) ≡ 128 → ⊥) → P (endAt (told 12 none) (startWorld m given)))
+      → (Lengths given → rangesOf m ≡ false → P (endAt (told 2 none) (startWorld m given)))
+      → (Lengths given → rangesOf m ≡ true → 1000000000 < asked .limit → P (endAt (told 3 none) (startWorld m given)))
       → (Passed → (f : Fault) → checkOf (asked .session) ≡ Bad f → P (endAt (toldFault f) (startWorld m given)))
       → (Passed → checkOf (asked .session) ≡ Sound → P (endAt (toldStop (ranOf asked m given .stop)) (ranOf asked m given .world)))
       → P (endOf asked m given)
   unfolding endOf
-  end-cases P p q s t u =
-      refusal-cases (λ (x : Option Told). P (onRefusal x (startWorld m given) (ranOf asked m given))) p q s (λ a. by a (checkOf (asked .session)) refl)
+  end-cases P p k q s t u =
+      refusal-cases (λ (x : Option Told). P (onRefusal x (startWorld m given) (ranOf asked m given))) p k q s (λ a. by a (checkOf (asked .session)) refl)
     where
       by : Passed → (c : Checked) → checkOf (asked .session) ≡ c → P (onRefusal (toldCheck c) (startWorld m given) (ranOf asked m given))
       by a Sound e = u a e
@@ -133,42 +150,27 @@ module _ (asked : Terms) (m : Machine) (given : Lent) where
   -- what holds of the start and of where a run stops holds of what is left, whatever the reply
   pub left-cases : (P : World → Type 0) → P (startWorld m given) → (checkOf (asked .session) ≡ Sound → P (ranOf asked m given .world))
       → P (endOf asked m given .world)
-  left-cases P s r = end-cases (λ x. P (x .world)) (λ l. s) (λ l f. s) (λ l f h. s) (λ a f e. s) (λ a e. r e)
+  left-cases P s r = end-cases (λ x. P (x .world)) (λ l. s) (λ l k. s) (λ l f. s) (λ l f h. s) (λ a f e. s) (λ a e. r e)
 
--- the replies to a run are at most 11, those that name a record at most 7
+-- the replies to a run are at most 12, those that name a record at most 7
 fault-most : (f : Fault) → faultNumber f ≤ 7
 fault-most (fault.Length k) = omega arith
 fault-most (fault.Kind k) = omega arith
 fault-most (fault.Value k) = omega arith
 fault-most (fault.Time k) = omega arith
 
-stop-most : (s : Stop) → stopNumber s ≤ 11
+stop-most : (s : Stop) → stopNumber s ≤ 12
 stop-most stop.Limit = omega arith
 stop-most stop.Undefined = omega arith
 stop-most stop.Full = omega arith
 stop-most stop.LogFull = omega arith
 
-pub reply-most : (asked : Terms) (m : Machine) (given : Lent) → answerOf asked m given .reply .number ≤ 11
+pub reply-most : (asked : Terms) (m : Machine) (given : Lent) → answerOf asked m given .reply .number ≤ 12
 reply-most asked m given =
-    end-cases asked m given (λ x. x .reply .number ≤ 11)
+    end-cases asked m given (λ x. x .reply .number ≤ 12)
     (λ l. omega arith)
+    (λ l k. omega arith)
     (λ l r. omega arith)
     (λ l r h. omega arith)
     (λ p f e. let h = fault-most f in omega arith)
     (λ p e. stop-most (ranOf asked m given .stop))
-
--- and those of refusals at most 7
-stop-stops : (s : Stop) → stops (stopNumber s) ≡ true
-stop-stops stop.Limit = refl
-stop-stops stop.Undefined = refl
-stop-stops stop.Full = refl
-stop-stops stop.LogFull = refl
-
-pub refusal-most : (asked : Terms) (m : Machine) (given : Lent) → let k = answerOf asked m given .reply .number in stops k ≡ false → k ≤ 7
-refusal-most asked m given =
-    end-cases asked m given (λ x. stops (x .reply .number) ≡ false → x .reply .number ≤ 7)
-    (λ l e. omega arith)
-    (λ l r e. omega arith)
-    (λ l r h e. omega arith)
-    (λ p f s e. fault-most f)
-    (λ p s e. absurd (true≢false (sym (stop-stops (ranOf asked m given .stop)) ∙ e)))
