@@ -2,7 +2,7 @@
 use Prim.Native.Nat.{ℕ, _≤_, _<_}
 use native.Mathlib.Omega.{arith}
 use mathlib.Core.Path.{_≡_, refl, sym, ap, subst, _∙_}
-use mathlib.Core.Bool.{Bool, true, false, not, cond}
+use mathlib.Core.Bool.{Bool, true, false, not}
 use mathlib.Core.Option.{Option, none, some}
 use lib.Dec.{eqb, ltb}
 use lib.ListN.{length}
@@ -50,23 +50,24 @@ module _ (asked : Terms) (m : Machine) (given : Lent) where
   refuses-12 l k = passes _ _ (ap not (eq-eqb _ _ l)) ∙ picks _ _ (ap not (ne-eqb _ _ k))
 
   module _ (l : Lengths given) where
-    -- with both lengths right the next tests decide
-    right-lengths : {x y z : Option Told}
-        → cond (not (eqb (length (given .image)) 65536)) x (cond (not (eqb (length (given .area)) 128)) y z) ≡ z
-    right-lengths = passes _ _ (ap not (eq-eqb _ _ (l .0))) ∙ passes _ _ (ap not (eq-eqb _ _ (l .1)))
+    right-image : not (eqb (length (given .image)) 65536) ≡ false
+    right-image = ap not (eq-eqb _ _ (l .0))
+
+    right-area : not (eqb (length (given .area)) 128) ≡ false
+    right-area = ap not (eq-eqb _ _ (l .1))
 
     pub refuses-2 : rangesOf m ≡ false → Refuses (some (told 2 none))
     unfolding refusalOf
-    refuses-2 r = right-lengths ∙ picks _ _ (ap not r)
+    refuses-2 r = passes _ _ right-image ∙ passes _ _ right-area ∙ picks _ _ (ap not r)
 
     module _ (r : rangesOf m ≡ true) where
       pub refuses-3 : 1000000000 < asked .limit → Refuses (some (told 3 none))
       unfolding refusalOf
-      refuses-3 h = right-lengths ∙ passes _ _ (ap not r) ∙ picks _ _ (lt-ltb _ _ h)
+      refuses-3 h = passes _ _ right-image ∙ passes _ _ right-area ∙ passes _ _ (ap not r) ∙ picks _ _ (lt-ltb _ _ h)
 
       pub session-decides : asked .limit ≤ 1000000000 → Refuses (toldCheck (checkOf (asked .session)))
       unfolding refusalOf
-      session-decides h = right-lengths ∙ passes _ _ (ap not r) ∙ passes _ _ (le-ltb _ _ h)
+      session-decides h = passes _ _ right-image ∙ passes _ _ right-area ∙ passes _ _ (ap not r) ∙ passes _ _ (le-ltb _ _ h)
 
   -- what the first four tests let pass
   pub record Passed : Type 0 where
@@ -88,13 +89,13 @@ module _ (asked : Terms) (m : Machine) (given : Lent) where
           → (fits : Bool) → rangesOf m ≡ fits → (over : Bool) → ltb 1000000000 (asked .limit) ≡ over → P (refusalOf asked m given)
       by false e wide k fits f over g = let l = eqb-false _ _ e in subst P (sym (refuses-1 l)) (p l)
       by true e false k fits f over g = let l = eqb-true _ _ e in let n = eqb-false _ _ k in subst P (sym (refuses-12 l n)) (a l n)
-      by true e true k false f over g = let l = (eqb-true _ _ e, eqb-true _ _ k) in subst P (sym (refuses-2 l f)) (q l f)
+      by true e true k false f over g = let l : Lengths given = (eqb-true _ _ e, eqb-true _ _ k) in subst P (sym (refuses-2 l f)) (q l f)
       by true e true k true f true g =
-          let l = (eqb-true _ _ e, eqb-true _ _ k) in
+          let l : Lengths given = (eqb-true _ _ e, eqb-true _ _ k) in
           let h = ltb-true _ _ g in
           subst P (sym (refuses-3 l f h)) (s l f h)
       by true e true k true f false g =
-          let l = (eqb-true _ _ e, eqb-true _ _ k) in
+          let l : Lengths given = (eqb-true _ _ e, eqb-true _ _ k) in
           let h = ltb-false _ _ g in
           subst P (sym (session-decides l f h)) (t (record { lengths = l; in-ranges = ranges-say (m .chip .bus) f; within = h }))
 

@@ -4,7 +4,7 @@ use Prim.Native.Nat.{ℕ, _≤_, _<_}
 use native.Mathlib.Omega.{arith}
 use mathlib.Core.Path.{_≡_, refl, sym, ap, _∙_}
 use mathlib.Core.Bool.{cond}
-use mathlib.Core.List.{List}
+use mathlib.Core.List.{List, []}
 use mathlib.Core.Logic.{_↔_}
 use lib.Dec.{eqb}
 use lib.ListN.{length}
@@ -52,7 +52,7 @@ module _ (image : List ℕ) (r : ℕ) where
   )
 
   -- else a machine, in its ranges
-  pub power-gives : let m = resetOf (memories image) (cold r) in
+  pub power-gives : let m = resetOf (memories image []) (cold r) in
       length image ≡ 65536 → r ≤ 65536 → (powerAnswer image r ≡ gives m) × Ranges (m .chip .bus)
   power-gives l h = let e = machine-given image r l h in (ap toldPower e, ranges-say _ (power-ranges image r _ e))
 

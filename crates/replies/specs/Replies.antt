@@ -8,7 +8,8 @@ use Rattle.session.specs.declared.Fault.{Fault}
 use Rattle.session.specs.declared.Checked.{Checked}
 use Rattle.session.specs.declared.Checked.the-variants.{Sound, Bad}
 use Rattle.replies.specs.declared.Reply.{Reply}
-use Rattle.replies.specs.declared.Reply.the-variants.{Limit, WrongImage, WrongMachine, WrongLimit, Length, Kind, Value, Time, Undefined, Full, LogFull, WrongArea}
+use Rattle.replies.specs.declared.Reply.the-variants.{Limit, WrongImage, WrongMachine, WrongLimit, Length, Kind, Value, Time, Undefined, Full}
+use Rattle.replies.specs.declared.Reply.the-variants.{LogFull, WrongArea}
 
 -- a reply: its number, and "4 to 7 name the record, counted from 0"
 pub record Told : Type 0 where

@@ -5,7 +5,7 @@ use borrow.Author.Tests.{not-true, not-false, ltb-true, ltb-false}
 use Rattle.replies.specs.Replies.{toldCheck}
 use Rattle.bus.specs.Access.{memories}
 use Rattle.boundary.specs.World.{withMemories, watching}
-use Rattle.cabinet.proofs.Ends.{refuses-1, refuses-2, refuses-3, session-decides}
+use Rattle.cabinet.proofs.Ends.{refuses-1, refuses-12, refuses-2, refuses-3, session-decides}
 use Rattle.cabinet.proofs.admit.Statement.{statement}
 use Rattle.cabinet.proofs.admit.Tie as tie
 
@@ -15,26 +15,34 @@ admit-spec =
     (tie.spec
     (λ c κs. search needs)  -- in-ranges-requires
     (λ c watch l.
-    let a = c .before .before .before .before .args in
-    sym (refuses-1 (watching (a .session .now) (a .n) watch) (a .m) (withMemories l (memories (a .image .now))) (c .if1 .taken)))  -- returns
-    (λ c watch l.
     let a = c .before .before .before .before .before .args in
-    sym
-    (refuses-2 (watching (a .session .now) (a .n) watch) (a .m) (withMemories l (memories (a .image .now))) (c .before .if1 .left)
-    (sym (c .before .before .in-ranges .ensures) ∙ not-true _ (c .if2 .taken))))  -- returns-2
+    sym (refuses-1 (watching (a .session .now) (a .n) watch) (a .m) (withMemories l (memories (a .image .now) (a .area .now))) (c .if1 .taken)))  -- returns
     (λ c watch l.
     let a = c .before .before .before .before .before .before .args in
     sym
-    (refuses-3 (watching (a .session .now) (a .n) watch) (a .m) (withMemories l (memories (a .image .now))) (c .before .before .if1 .left)
-    (sym (c .before .before .before .in-ranges .ensures) ∙ not-false _ (c .before .if2 .left))
-    (ltb-true 1000000000 (a .n) (c .if3 .taken))))  -- returns-3
+    (refuses-12 (watching (a .session .now) (a .n) watch) (a .m) (withMemories l (memories (a .image .now) (a .area .now))) (c .before .if1 .left)
+    (c .if2 .taken)))  -- returns-2
+    (λ c watch l.
+    let a = c .before .before .before .before .before .before .before .args in
+    sym
+    (refuses-2 (watching (a .session .now) (a .n) watch) (a .m) (withMemories l (memories (a .image .now) (a .area .now))) (c .before .before .if1 .left, c .before .if2 .left)
+    (sym (c .before .before .before .in-ranges .ensures) ∙ not-true _ (c .if3 .taken))))  -- returns-3
+    (λ c watch l.
+    let a = c .before .before .before .before .before .before .before .before .args in
+    sym
+    (refuses-3 (watching (a .session .now) (a .n) watch) (a .m) (withMemories l (memories (a .image .now) (a .area .now))) (c .before .before .before .if1 .left, c .before .before .if2 .left)
+    (sym (c .before .before .before .before .in-ranges .ensures) ∙ not-false _ (c .before .if3 .left))
+    (ltb-true 1000000000 (a .n) (c .if4 .taken))))  -- returns-4
     (λ c κs. search needs)  -- check-requires
     (λ c κs. search needs)  -- verdict-requires
     (λ c watch l.
-    let a = c .before .before .before .before .before .before .before .before .args in
+    let a = c .before .before .before .before .before .before .before .before .before .before .args in
     c .verdict .ensures
     ∙ ap toldCheck (c .before .check .ensures)
     ∙ sym
-    (session-decides (watching (a .session .now) (a .n) watch) (a .m) (withMemories l (memories (a .image .now))) (c .before .before .before .before .if1 .left)
-    (sym (c .before .before .before .before .before .in-ranges .ensures) ∙ not-false _ (c .before .before .before .if2 .left))
-    (ltb-false 1000000000 (a .n) (c .before .before .if3 .left)))))  -- returns-4
+    (session-decides (watching (a .session .now) (a .n) watch) (a .m) (withMemories l (memories (a .image .now) (a .area .now))) (
+      c .before .before .before .before .before .if1 .left,
+      c .before .before .before .before .if2 .left,
+    )
+    (sym (c .before .before .before .before .before .before .in-ranges .ensures) ∙ not-false _ (c .before .before .before .if3 .left))
+    (ltb-false 1000000000 (a .n) (c .before .before .if4 .left)))))  -- returns-5

@@ -25,13 +25,15 @@ run-either-spec =
     (λ c κs. search needs)  -- watch-either-requires
     (λ c. search needs)  -- same-length
     (λ c. search needs)  -- same-length-2
+    (λ c. search needs)  -- same-length-3
     (λ c.
-    let a = c .before .before .before .before .before .before .before .before .before .before .before .before .before .args in
-    let w = c .before .before .before .before .before .watch-either in
-    let l = lent (a .image .now) (a .output .now) in
-    let no-log = no-bytes _ (w .kept .1 .1 .1 .1 .1 .1 .1 .0) in (
-      ap (λ (log : List ℕ). answered (w .result .ran) (lending (w .last .1 .0) (w .last .1 .1 .1 .1 .1 .1 .0) log)) (sym no-log)
+    let d = c .before .before .before .before .before .before .before in
+    let a = d .before .before .before .before .before .before .before .before .before .before .args in
+    let w = d .watch-either in
+    let l = lent (a .image .now) (a .area .now) (a .output .now) in
+    let no-log = no-bytes _ (w .kept .1 .1 .1 .1 .1 .1 .1 .1 .0) in (
+      ap (λ (log : List ℕ). answered (w .result .ran) (lending (w .last .1 .0) (w .last .1 .1 .0) (w .last .1 .1 .1 .1 .1 .1 .1 .0) log)) (sym no-log)
           ∙ w .ensures .0
-          ∙ ap (λ (u : Watch). answerOf (watching (a .session .now) (a .n) u) (a .m) l) (c .before .before .before .before .before .before .before .before .nothing .ensures),
-      w .ensures .1 ∙ ap (λ (u : Watch). leapsOf (watching (a .session .now) (a .n) u) (a .m) l) (c .before .before .before .before .before .before .before .before .nothing .ensures),
+          ∙ ap (λ (u : Watch). answerOf (watching (a .session .now) (a .n) u) (a .m) l) (d .before .before .before .nothing .ensures),
+      w .ensures .1 ∙ ap (λ (u : Watch). leapsOf (watching (a .session .now) (a .n) u) (a .m) l) (d .before .before .before .nothing .ensures),
     )))  -- returns

@@ -10,4 +10,5 @@ run-single-spec =
     (λ c κs. search needs)  -- run-either-requires
     (λ c. search needs)  -- same-length
     (λ c. search needs)  -- same-length-2
-    (λ c. c .before .before .before .before .before .run-either .ensures .0))  -- returns
+    (λ c. search needs)  -- same-length-3
+    (λ c. c .before .before .before .before .before .before .before .run-either .ensures .0))  -- returns

@@ -16,9 +16,10 @@ watch-either-spec =
     (λ c. search needs)  -- same-length
     (λ c. search needs)  -- same-length-2
     (λ c. search needs)  -- same-length-3
+    (λ c. search needs)  -- same-length-4
     (λ c.
-    let e = c .before .before .before .before .before .before .before .end in
-    let l = lending (e .last .1 .0) (e .last .1 .1 .1 .1 .1 .1 .0) (e .last .1 .1 .1 .1 .1 .1 .1 .0) in (
+    let e = c .before .before .before .before .before .before .before .before .before .end in
+    let l = lending (e .last .1 .0) (e .last .1 .1 .0) (e .last .1 .1 .1 .1 .1 .1 .1 .0) (e .last .1 .1 .1 .1 .1 .1 .1 .1 .0) in (
       ap (λ (r : Ran). answered r l) (c .report .ensures) ∙ ap answerAt (e .ensures),
       ap (λ (x : End). x .world .state .leaps .0) (e .ensures),
     )))  -- returns
