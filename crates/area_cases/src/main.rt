@@ -6,7 +6,8 @@ use counts::Cycles;
 use machine::Machine;
 use machine::Power;
 
-// What a case changes of the machine after power-on: SP, bits 6 and 7 of $14, R, I, waiting, a pending NMI, and whether a byte is to be sent.
+// What a case changes of the machine after power-on: SP, bits 6 and 7 of $14, R, I, waiting, a pending NMI, and whether a byte is to be sent when
+// ten cycles have passed.
 struct Start {
     sp: u16,
     rame: bool,
@@ -30,7 +31,7 @@ struct Lends {
 const STAY: [u8; 2] = *b"\x20\xFE";
 
 // WAI, and BRA to itself.
-const WAIT: [u8; 3] = *b"\x3E\x20\xFE";
+const IDLE: [u8; 3] = *b"\x3E\x20\xFE";
 
 // LDS #$00F0, WAI.
 const SLEEP: [u8; 4] = *b"\x8E\x00\xF0\x3E";
@@ -53,40 +54,26 @@ fn install(memory: &mut [u8], at: usize, code: &[u8]) {
     }
 }
 
-// The image: a case's code at $0300, CLR $0014 twice and a BRA to itself in the RAM, the handlers of NMI and IRQ1; else 41, which is undefined.
+// The image: a case's code at $0300, CLR $0014 twice and a BRA to itself in the RAM, RTI for NMI, CLR $0014 and RTI for IRQ1; else 41, which is
+// undefined.
 fn rom(code: &[u8]) -> [u8; 65536] {
     let mut image = [0x41u8; 65536];
-    image[0x0400] = 0x3B;
-    image[0x0410] = 0x7F;
-    image[0x0411] = 0x00;
-    image[0x0412] = 0x14;
-    image[0x0413] = 0x3B;
-    image[0xFFF8] = 0x04;
-    image[0xFFF9] = 0x10;
-    image[0xFFFC] = 0x04;
-    image[0xFFFD] = 0x00;
-    image[0xFFFE] = 0x03;
-    image[0xFFFF] = 0x00;
     install(
         &mut image,
         0x0080,
         b"\x7F\x00\x14\x41\x41\x41\x41\x41\x7F\x00\x14\x41\x41\x41\x41\x20\xFE",
     );
     install(&mut image, 0x0300, code);
+    install(&mut image, 0x0400, b"\x3B\x7F\x00\x14\x3B");
+    install(&mut image, 0xFFF8, b"\x04\x01\x41\x41\x04\x00\x03\x00");
     image
 }
 
 // The area and a byte more: LDAA #$22 and BRA to itself at $83, LDAA #$40 and STAA $14 at $8B; else 87, which is undefined.
 fn outside() -> [u8; 129] {
     let mut area = [0x87u8; 129];
-    area[0x03] = 0x86;
-    area[0x04] = 0x22;
-    area[0x05] = 0x20;
-    area[0x06] = 0xFE;
-    area[0x0B] = 0x86;
-    area[0x0C] = 0x40;
-    area[0x0D] = 0x97;
-    area[0x0E] = 0x14;
+    install(&mut area, 0x03, b"\x86\x22\x20\xFE");
+    install(&mut area, 0x0B, b"\x86\x40\x97\x14");
     area
 }
 
@@ -136,18 +123,9 @@ fn number(name: &[u8], n: u64) {
     io::print_decimal(1, n);
 }
 
-fn word(name: &[u8], w: u16) {
+fn hex(name: &[u8], n: u64, digits: usize) {
     io::write_all(1, name);
-    io::print_hex(1, w as u64, 4);
-}
-
-fn byte(name: &[u8], v: u8) {
-    io::write_all(1, name);
-    io::print_hex(1, v as u64, 2);
-}
-
-fn yes(name: &[u8], b: bool) {
-    number(name, b as u64);
+    io::print_hex(1, n, digits);
 }
 
 fn show_counts(r: Ran) {
@@ -162,21 +140,20 @@ fn show_counts(r: Ran) {
 
 fn show_machine(m: Machine) {
     let c = m.chip.registers;
-    word(b" pc ", c.pc);
-    byte(b" a ", c.a);
-    word(b" sp ", c.sp);
-    byte(b" cc ", c.codes.to_byte());
-    yes(b" waiting ", c.waiting);
-    yes(b" nmi ", m.nmi);
-    yes(b" rame ", m.chip.bus.rame);
-    yes(b" standby ", m.chip.bus.standby);
+    hex(b" pc ", c.pc as u64, 4);
+    hex(b" a ", c.a as u64, 2);
+    hex(b" sp ", c.sp as u64, 4);
+    hex(b" cc ", c.codes.to_byte() as u64, 2);
+    number(b" waiting ", c.waiting as u64);
+    number(b" nmi ", m.nmi as u64);
+    number(b" rame ", m.chip.bus.rame as u64);
+    number(b" standby ", m.chip.bus.standby as u64);
 }
 
 fn show_change(name: &[u8], at: u64, before: u8, after: u8) {
     if before != after {
-        io::write_all(1, name);
-        io::print_hex(1, at, 4);
-        byte(b"] ", after);
+        hex(name, at, 4);
+        hex(b"] ", after as u64, 2);
     }
 }
 
@@ -195,7 +172,7 @@ fn show_changes(name: &[u8], at: u64, before: &[u8], after: &[u8]) {
 }
 
 // What a run reports, and what it left of all that was lent.
-fn show(r: Ran, code: &[u8], image: &[u8], area: &[u8], output: &[u8]) {
+fn show(r: Ran, code: &[u8], image: &[u8], area: &[u8], output: &[u8], log: &[u8]) {
     let m = r.machine;
     let before = rom(code);
     let beside = outside();
@@ -204,51 +181,38 @@ fn show(r: Ran, code: &[u8], image: &[u8], area: &[u8], output: &[u8]) {
     show_changes(b" [", 0, &before, image);
     show_changes(b" area[", 0x80, &beside, area);
     show_changes(b" output[", 0, b"\xEE", output);
+    show_changes(b" log[", 0, b"\xEE\xEE\xEE\xEE\xEE\xEE\xEE\xEE", log);
 }
 
 fn single(
     code: &[u8],
     session: &[u8],
-    s: Start,
+    m: Machine,
     n: u32,
     image: &mut [u8],
     area: &mut [u8],
     output: &mut [u8],
 ) {
-    let before = rom(code);
-    let Power::On(m) = cabinet::power_on(&before, 65536) else {
-        return;
-    };
-    let start = started(m, s);
-    let r = cabinet::run_single(image, area, start, session, n, output);
-    io::write_all(1, b"  single ");
-    show(r, code, &image[..], &area[..], &output[..]);
-    io::write_all(1, b"\n");
+    let r = cabinet::run_single(image, area, m, session, n, output);
+    show(r, code, &image[..], &area[..], &output[..], b"");
 }
 
 fn leaping(
     code: &[u8],
     session: &[u8],
-    s: Start,
+    m: Machine,
     n: u32,
     image: &mut [u8],
     area: &mut [u8],
     output: &mut [u8],
 ) {
-    let before = rom(code);
-    let Power::On(m) = cabinet::power_on(&before, 65536) else {
-        return;
-    };
-    let start = started(m, s);
-    let l = cabinet::run_leaping(image, area, start, session, n, output);
+    let l = cabinet::run_leaping(image, area, m, session, n, output);
     let r = l.ran;
-    io::write_all(1, b"  leaping");
-    show(r, code, &image[..], &area[..], &output[..]);
+    show(r, code, &image[..], &area[..], &output[..], b"");
     number(b" leaps ", l.leaps.0 as u64);
-    io::write_all(1, b"\n");
 }
 
-fn singly(code: &[u8], session: &[u8], s: Start, l: Lends) {
+fn singly(code: &[u8], session: &[u8], m: Machine, l: Lends) {
     let mut image = rom(code);
     let mut area = outside();
     let mut output = [0xEEu8; 1];
@@ -258,7 +222,7 @@ fn singly(code: &[u8], session: &[u8], s: Start, l: Lends) {
     single(
         code,
         session,
-        s,
+        m,
         l.n,
         &mut image[..long],
         &mut area[..wide],
@@ -266,7 +230,7 @@ fn singly(code: &[u8], session: &[u8], s: Start, l: Lends) {
     );
 }
 
-fn by_leaps(code: &[u8], session: &[u8], s: Start, l: Lends) {
+fn by_leaps(code: &[u8], session: &[u8], m: Machine, l: Lends) {
     let mut image = rom(code);
     let mut area = outside();
     let mut output = [0xEEu8; 1];
@@ -276,7 +240,7 @@ fn by_leaps(code: &[u8], session: &[u8], s: Start, l: Lends) {
     leaping(
         code,
         session,
-        s,
+        m,
         l.n,
         &mut image[..long],
         &mut area[..wide],
@@ -285,46 +249,31 @@ fn by_leaps(code: &[u8], session: &[u8], s: Start, l: Lends) {
 }
 
 fn both(title: &[u8], code: &[u8], session: &[u8], s: Start, l: Lends) {
+    let image = rom(code);
+    let Power::On(m) = cabinet::power_on(&image, 65536) else {
+        return;
+    };
+    let start = started(m, s);
     io::write_all(1, title);
+    io::write_all(1, b"\n  single ");
+    singly(code, session, start, l);
+    io::write_all(1, b"\n  leaping");
+    by_leaps(code, session, start, l);
     io::write_all(1, b"\n");
-    singly(code, session, s, l);
-    by_leaps(code, session, s, l);
 }
 
-// Bit 6 clear, bit 7 set.
-fn off() -> Start {
+// Bit 6 as said, bit 7 the other way round.
+fn with_bit(rame: bool, r: u32) -> Start {
     Start {
         sp: 0x00F0,
-        rame: false,
-        standby: true,
-        r: 65536,
+        rame: rame,
+        standby: !rame,
+        r: r,
         masked: true,
         waiting: false,
         nmi: false,
         sending: false,
     }
-}
-
-// Bit 6 set, bit 7 clear.
-fn on() -> Start {
-    let mut s = off();
-    s.rame = true;
-    s.standby = false;
-    s
-}
-
-fn under(s: Start, r: u32) -> Start {
-    let mut t = s;
-    t.r = r;
-    t
-}
-
-fn entering(sp: u16, r: u32) -> Start {
-    let mut s = off();
-    s.sp = sp;
-    s.r = r;
-    s.nmi = true;
-    s
 }
 
 fn whole(n: u32) -> Lends {
@@ -336,71 +285,71 @@ fn whole(n: u32) -> Lends {
     }
 }
 
-fn jumping(title: &[u8], jump: &[u8], s: Start) {
-    both(title, jump, b"", s, whole(20));
+fn jumping(title: &[u8], jump: &[u8], rame: bool) {
+    both(title, jump, b"", with_bit(rame, 65536), whole(20));
 }
 
 fn codes() {
-    jumping(b"code in the RAM clears the bit", b"\x7E\x00\x80", on());
-    jumping(b"code in the area sets it again", b"\x7E\x00\x88", on());
-    jumping(b"starting with the bit clear", b"\x7E\x00\x83", off());
-    jumping(b"undefined in the area", b"\x7E\x00\x80", off());
-    jumping(b"undefined in the RAM", b"\x7E\x00\x83", on());
+    jumping(b"code in the RAM clears the bit", b"\x7E\x00\x80", true);
+    jumping(b"code in the area sets it again", b"\x7E\x00\x88", true);
+    jumping(b"starting with the bit clear", b"\x7E\x00\x83", false);
+    jumping(b"undefined in the area", b"\x7E\x00\x80", false);
+    jumping(b"undefined in the RAM", b"\x7E\x00\x83", true);
 }
 
-fn edge(title: &[u8], s: Start) {
-    both(title, &STRAIGHT, b"", s, whole(50));
+fn edge(title: &[u8], rame: bool, r: u32) {
+    both(title, &STRAIGHT, b"", with_bit(rame, r), whole(50));
 }
 
 fn edges() {
-    edge(b"straight code", off());
-    edge(b"straight code, R 100", under(off(), 0x100));
-    edge(b"straight code, R C0", under(off(), 0xC0));
-    edge(b"straight code, R 80", under(off(), 0x80));
-    edge(b"straight code, bit set", on());
-    edge(b"straight code, bit set, R 80", under(on(), 0x80));
+    edge(b"straight code", false, 65536);
+    edge(b"straight code, R 100", false, 0x100);
+    edge(b"straight code, R C0", false, 0xC0);
+    edge(b"straight code, R 80", false, 0x80);
+    edge(b"straight code, bit set", true, 65536);
+    edge(b"straight code, bit set, R 80", true, 0x80);
 }
 
-// A byte is to be sent when ten cycles have passed, and the output has no room.
-fn sending() -> Start {
-    let mut s = off();
-    s.sending = true;
+fn storing(title: &[u8], r: u32) {
+    both(title, &STORES, b"", with_bit(false, r), whole(11));
+}
+
+fn writes() {
+    let on = with_bit(true, 65536);
+    let mut sending = with_bit(false, 65536);
+    sending.sending = true;
+    let mut full = whole(20);
+    full.output = 0;
+    both(b"9, both written", &STORES, b"", sending, full);
+    storing(b"0, both written", 65536);
+    storing(b"R F1", 0xF1);
+    storing(b"R F0", 0xF0);
+    both(b"the bit turned by COM", &TURNS, b"", on, whole(24));
+}
+
+fn entering(sp: u16, r: u32) -> Start {
+    let mut s = with_bit(false, r);
+    s.sp = sp;
+    s.nmi = true;
     s
 }
-
-fn roomless() -> Lends {
-    let mut l = whole(20);
-    l.output = 0;
-    l
-}
-
-fn storing(title: &[u8], s: Start) {
-    both(title, &STORES, b"", s, whole(11));
-}
-
-fn stops() {
-    both(b"9, both written", &STORES, b"", sending(), roomless());
-    storing(b"0, both written", off());
-    storing(b"R F1", under(off(), 0xF1));
-    storing(b"R F0", under(off(), 0xF0));
-    both(b"the bit turned by COM", &TURNS, b"", on(), whole(24));
-}
-
-// NMI at 5.
-const SOON: [u8; 8] = *b"\x06\x00\x04\x00\x05\x00\x00\x00";
 
 fn entry(title: &[u8], sp: u16, r: u32) {
     both(title, &STAY, b"", entering(sp, r), whole(30));
 }
 
+// NMI at 5.
+const SOON: [u8; 8] = *b"\x06\x00\x04\x00\x05\x00\x00\x00";
+
 fn entries() {
     let jump = b"\x7E\x00\x85";
+    let off = with_bit(false, 65536);
     entry(b"NMI", 0x00F0, 65536);
     entry(b"NMI, R ED", 0x00F0, 0xED);
     entry(b"NMI, R 80", 0x00F0, 0x80);
     entry(b"NMI across $FF and $100", 0x0102, 65536);
     entry(b"NMI across $7F and $80", 0x0082, 65536);
-    both(b"NMI of code in the area", jump, &SOON, off(), whole(30));
+    both(b"NMI of code in the area", jump, &SOON, off, whole(30));
 }
 
 // NMI, IRQ1 low and reset, each at 100.
@@ -410,106 +359,74 @@ const LOW: [u8; 9] = *b"\x07\x00\x03\x00\x64\x00\x00\x00\x00";
 
 const RESET: [u8; 8] = *b"\x06\x00\x07\x00\x64\x00\x00\x00";
 
-fn waiting() -> Start {
-    let mut s = off();
-    s.waiting = true;
-    s
-}
-
-fn unmasked() -> Start {
-    let mut s = on();
-    s.masked = false;
-    s
-}
-
 fn waits() {
-    both(b"a wait", &WAIT, &NMI, off(), whole(130));
-    both(b"a wait, R 80", &WAIT, &NMI, under(off(), 0x80), whole(130));
+    let off = with_bit(false, 65536);
+    let mut waiting = off;
+    waiting.waiting = true;
+    let mut open = with_bit(true, 65536);
+    open.masked = false;
+    both(b"a wait", &IDLE, &NMI, off, whole(130));
     both(
-        b"waiting from the start",
-        &STAY,
-        b"",
-        waiting(),
-        whole(1000),
+        b"a wait, R 80",
+        &IDLE,
+        &NMI,
+        with_bit(false, 0x80),
+        whole(130),
     );
+    both(b"waiting from the start", &STAY, b"", waiting, whole(1000));
     both(
         b"the bit cleared in the handler",
-        &WAIT,
+        &IDLE,
         &LOW,
-        unmasked(),
+        open,
         whole(120),
     );
-    both(b"a reset in a wait", &SLEEP, &RESET, off(), whole(150));
+    both(b"a reset in a wait", &SLEEP, &RESET, off, whole(150));
 }
 
-fn log_asked() -> Watch {
-    Watch {
+// Either run with the log asked for: the case `NMI`.
+fn either(leaping: bool, m: Machine, area: &mut [u8], log: &mut [u8]) {
+    let mut image = rom(&STAY);
+    let mut output = [0xEEu8; 1];
+    let watch = Watch {
         log: true,
         since: Cycles(0),
-    }
-}
-
-fn logged_single(area: &mut [u8], log: &mut [u8]) {
-    let mut image = rom(&STAY);
-    let mut output = [0xEEu8; 1];
-    let Power::On(m) = cabinet::power_on(&image, 65536) else {
-        return;
     };
-    let start = started(m, entering(0x00F0, 65536));
-    let r = cabinet::watch_single(
+    let l = cabinet::watch_either(
+        leaping,
         &mut image,
         area,
-        start,
+        m,
         b"",
         30,
-        log_asked(),
-        &mut output,
-        log,
-    );
-    io::write_all(1, b"  single ");
-    show(r, &STAY, &image, &area[..], &output);
-    show_changes(b" log[", 0, b"\xEE\xEE\xEE\xEE\xEE\xEE\xEE\xEE", &log[..]);
-    io::write_all(1, b"\n");
-}
-
-fn logged_leaping(area: &mut [u8], log: &mut [u8]) {
-    let mut image = rom(&STAY);
-    let mut output = [0xEEu8; 1];
-    let Power::On(m) = cabinet::power_on(&image, 65536) else {
-        return;
-    };
-    let start = started(m, entering(0x00F0, 65536));
-    let l = cabinet::watch_leaping(
-        &mut image,
-        area,
-        start,
-        b"",
-        30,
-        log_asked(),
+        watch,
         &mut output,
         log,
     );
     let r = l.ran;
-    io::write_all(1, b"  leaping");
-    show(r, &STAY, &image, &area[..], &output);
-    show_changes(b" log[", 0, b"\xEE\xEE\xEE\xEE\xEE\xEE\xEE\xEE", &log[..]);
-    number(b" leaps ", l.leaps.0 as u64);
-    io::write_all(1, b"\n");
+    show(r, &STAY, &image, &area[..], &output, &log[..]);
+}
+
+fn logging(leaping: bool, m: Machine, area: isize, log: isize) {
+    let mut beside = outside();
+    let mut rows = [0xEEu8; 8];
+    let wide = io::count(area, &beside);
+    let room = io::count(log, &rows);
+    either(leaping, m, &mut beside[..wide], &mut rows[..room]);
 }
 
 fn logged(title: &[u8], area: isize, log: isize) {
-    let mut first = outside();
-    let mut second = outside();
-    let mut rows = [0xEEu8; 8];
-    let mut others = [0xEEu8; 8];
-    let wide = io::count(area, &first);
-    let room = io::count(log, &rows);
-    let wide2 = io::count(area, &second);
-    let room2 = io::count(log, &others);
+    let image = rom(&STAY);
+    let Power::On(m) = cabinet::power_on(&image, 65536) else {
+        return;
+    };
+    let start = started(m, entering(0x00F0, 65536));
     io::write_all(1, title);
+    io::write_all(1, b"\n  single ");
+    logging(false, start, area, log);
+    io::write_all(1, b"\n  leaping");
+    logging(true, start, area, log);
     io::write_all(1, b"\n");
-    logged_single(&mut first[..wide], &mut rows[..room]);
-    logged_leaping(&mut second[..wide2], &mut others[..room2]);
 }
 
 fn logs() {
@@ -527,31 +444,39 @@ const VALUE: [u8; 9] = *b"\x07\x00\x02\x00\x00\x00\x00\x00\x20";
 
 const TIME: [u8; 16] = *b"\x06\x00\x04\x00\x05\x00\x00\x00\x06\x00\x04\x00\x04\x00\x00\x00";
 
+fn refused(title: &[u8], session: &[u8], l: Lends) {
+    both(title, &STAY, session, entering(0x00F0, 65536), l);
+}
+
+fn bad_sessions(l: Lends) {
+    refused(b"with a record cut short", &CUT, l);
+    refused(b"with an unknown kind", &KIND, l);
+    refused(b"with a wrong value", &VALUE, l);
+    refused(b"with a wrong time", &TIME, l);
+}
+
 // An area of so many bytes, alone and with each other refusal.
 fn refusals(title: &[u8], area: isize) {
-    let s = entering(0x00F0, 65536);
     let mut l = whole(30);
     l.area = area;
     let mut short = l;
     short.image = 65535;
     let mut long = l;
     long.n = 1000000001;
+    let wrong = entering(0x00F0, 65537);
     io::write_all(1, title);
     io::write_all(1, b"\n");
-    both(b"alone", &STAY, b"", s, l);
-    both(b"with a wrong image", &STAY, b"", s, short);
-    both(b"with a wrong machine", &STAY, b"", under(s, 65537), l);
-    both(b"with a wrong limit", &STAY, b"", s, long);
-    both(b"with a record cut short", &STAY, &CUT, s, l);
-    both(b"with an unknown kind", &STAY, &KIND, s, l);
-    both(b"with a wrong value", &STAY, &VALUE, s, l);
-    both(b"with a wrong time", &STAY, &TIME, s, l);
+    refused(b"alone", b"", l);
+    refused(b"with a wrong image", b"", short);
+    both(b"with a wrong machine", &STAY, b"", wrong, l);
+    refused(b"with a wrong limit", b"", long);
+    bad_sessions(l);
 }
 
 fn main() {
     codes();
     edges();
-    stops();
+    writes();
     entries();
     waits();
     logs();

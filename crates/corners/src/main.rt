@@ -291,6 +291,11 @@ fn show_memory(name: &[u8], at: u64, memory: &mut [u8], first: u8) {
     }
 }
 
+fn show_memories(image: &mut [u8], area: &mut [u8]) {
+    show_memory(b" [", 0, image, IMAGE);
+    show_memory(b" area[", 0x80, area, AREA);
+}
+
 fn show_name(row: &[u8]) {
     let n = io::count(NAME, row);
     io::write_all(1, &row[..n]);
@@ -306,8 +311,7 @@ fn answer(row: &[u8], image: &mut [u8], area: &mut [u8]) {
     io::write_all(1, b"cycles ");
     io::print_decimal(1, ran.cycles);
     show_machine(machine, after);
-    show_memory(b" [", 0, image, IMAGE);
-    show_memory(b" area[", 0x80, area, AREA);
+    show_memories(image, area);
     io::write_all(1, b"\n");
 }
 
