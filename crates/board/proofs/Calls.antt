@@ -39,7 +39,7 @@ module _ (leaping : Bool) (t : Terms) (b : Buffers) where
       sym (passes _ _ (ap (ltb (length (b .result))) (sym s) ∙ le-ltb _ _ h) ∙ ap (onLoad leaping t b) (sym e ∙ ap toldLoaded f))
 
   -- a machine outside its ranges
-  pub refused-2 : {k : ℕ} {r : List ℕ} → k ≡ unfitReply (b .lent .image) → r ≡ over (recordBytes leaping (told k none) noCounts 0) (b .result)
+  pub refused-2 : {k : ℕ} {r : List ℕ} → k ≡ unfitReply (b .lent .image) (b .lent .area) → r ≡ over (recordBytes leaping (told k none) noCounts 0) (b .result)
       → called k (buffers (b .machine) (b .lent) r) ≡ refusedCall leaping b 2
   refused-2 {k} e f =
       ap (λ (r : List ℕ). called k (buffers (b .machine) (b .lent) r)) f
@@ -73,11 +73,11 @@ no-bytes (x ∷ l) e = absurd (let z : ⊥ = omega arith in z)
 
 module _ (leaping : Bool) (session : List ℕ) (n : ℕ) (b : Buffers) where
   -- nothing is watched, and there is no log
-  pub plain-left : {watch : Watch} {k : ℕ} {machine image output log result : List ℕ} → watch ≡ unwatched → length log ≡ 0
-      → called k (buffers machine (lending image output log) result) ≡ runCall leaping (watching session n watch) b
-      → called k (buffers machine (lent image output) result) ≡ runCall leaping (terms session n) b
-  plain-left {watch} {k} {machine} {image} {output} {log} {result} u h e =
-      ap (λ (l : List ℕ). called k (buffers machine (lending image output l) result)) (sym (no-bytes log h))
+  pub plain-left : {watch : Watch} {k : ℕ} {machine image area output log result : List ℕ} → watch ≡ unwatched → length log ≡ 0
+      → called k (buffers machine (lending image area output log) result) ≡ runCall leaping (watching session n watch) b
+      → called k (buffers machine (lent image area output) result) ≡ runCall leaping (terms session n) b
+  plain-left {watch} {k} {machine} {image} {area} {output} {log} {result} u h e =
+      ap (λ (l : List ℕ). called k (buffers machine (lending image area output l) result)) (sym (no-bytes log h))
       ∙ e
       ∙ ap (λ (w : Watch). runCall leaping (watching session n w) b) u
 
