@@ -203,14 +203,18 @@ fn step(m: Machine, i: Instruction, image: &mut [u8]) -> Moved {
     m.step(i, image, &mut area)
 }
 
-fn replay(machine: Machine, case: &[u8], image: &mut [u8]) -> Difference {
-    place(case, image);
-    let m = start(machine, case);
-    let Look::Runs(i) = m.look(&image[..], b"") else {
+// The instruction at PC, and what it left.
+fn executed(m: Machine, case: &[u8], image: &mut [u8]) -> Difference {
+    let Look::Runs(i) = m.look(image, b"") else {
         take_cells(case, image);
         return Difference::Undefined;
     };
     compare(step(m, i, image), case, image)
+}
+
+fn replay(machine: Machine, case: &[u8], image: &mut [u8]) -> Difference {
+    place(case, image);
+    executed(start(machine, case), case, image)
 }
 
 impl Tally {
