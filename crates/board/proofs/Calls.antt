@@ -2,13 +2,14 @@
 use Prim.Native.Nat.{ℕ, _≤_, _<_}
 use native.Mathlib.Omega.{arith}
 use mathlib.Core.Bool.{Bool, true, false}
-use mathlib.Core.List.{List, [], _∷_}
+use mathlib.Core.List.{List, []}
 use mathlib.Core.Option.{none}
 use mathlib.Core.Path.{_≡_, refl, sym, ap, _∙_}
 use lib.Dec.{ltb}
 use lib.ListN.{length}
 use borrow.Author.Tests.{eq-eqb, lt-ltb, le-ltb}
 use Rattle.laws.proofs.Conds.{picks, passes}
+use Rattle.laws.proofs.Lists.{no-bytes}
 use Rattle.numbers.specs.Numbers.{over}
 use Rattle.replies.specs.Replies.{told, toldReply}
 use Rattle.machine.specs.declared.Machine.{Machine}
@@ -66,10 +67,6 @@ module _ (leaping : Bool) (t : Terms) (b : Buffers) where
       ∙ ap (λ (c : Counted). reported leaping n (toldCounts c) (p .leaps .0) (buffers kept l (b .result))) f
       ∙ ap (λ (x : Answer). told-of x (p .leaps .0)) (a .0)
       ∙ ap (told-of (answerOf t m (b .lent))) (a .1)
-
-no-bytes : (l : List ℕ) → length l ≡ 0 → l ≡ []
-no-bytes [] e = refl
-no-bytes (x ∷ l) e = absurd (let z : ⊥ = omega arith in z)
 
 module _ (leaping : Bool) (session : List ℕ) (n : ℕ) (b : Buffers) where
   -- nothing is watched, and there is no log
