@@ -34,7 +34,7 @@ registersText c =
     ++ coded " sp " 4 (c .sp)
     ++ coded " cc " 2 (codesByte (c .codes))
 
--- "Replies 1 to 3 and 10 print `refused K`; 4 to 7 print `refused K record R`"
+-- "Replies 1 to 3 and 10 print `refused K`; 4 to 7 print `refused K record R`"; 02's 12 prints as 1 does
 unfoldable pub refusedText : ℕ → Option ℕ → List ℕ
 refusedText k none = counted "refused " k
 refusedText k (some r) = counted "refused " k ++ counted " record " r
