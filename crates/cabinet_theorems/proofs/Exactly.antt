@@ -20,24 +20,33 @@ use Rattle.boundary.specs.declared.Stop.the-variants.{Limit, Undefined, Full, L
 use Rattle.boundary.specs.World.{Lent, Terms, stopNumber}
 use Rattle.boundary.specs.Start.{startWorld, ranOf}
 use Rattle.laws.proofs.Known.{known}
-use Rattle.replies.specs.Replies.{Told, told, toldFault, toldCheck}
+use Rattle.replies.specs.Replies.{Told, told, toldFault, toldCheck, stops}
 use Rattle.replies.proofs.Known.{fault-known}
 use Rattle.cabinet.specs.Answers.{toldStop, End, endAt, endOf, answerAt, answerOf}
-use Rattle.cabinet.proofs.Ends.{Passed, refuses-1, refuses-2, refuses-3, session-decides, end-refused, end-ran, end-cases}
+use Rattle.cabinet.proofs.Ends.{Lengths, Passed, refuses-1, refuses-12, refuses-2, refuses-3, session-decides, end-refused, end-ran, end-cases}
 use Rattle.cabinet_theorems.proofs.Stops.{Shows, shown-once, stop-shows}
 
--- the number of a refusal by the session is 4 to 7, that of a stop is not 1 to 7
+-- the number of a refusal by the session is 4 to 7, and no refusal's number is a stop's
 pub fault-number : (f : Fault) → (4 ≤ faultNumber f) × (faultNumber f ≤ 7)
 fault-number (Length k) = (omega arith, omega arith)
 fault-number (Kind k) = (omega arith, omega arith)
 fault-number (Value k) = (omega arith, omega arith)
 fault-number (Time k) = (omega arith, omega arith)
 
-pub stop-number : {R : Type 0} (s : Stop) {j : ℕ} → stopNumber s ≡ j → 1 ≤ j → j ≤ 7 → R
-stop-number Limit e l h = absurd (let z : ⊥ = omega arith in z)
-stop-number Undefined e l h = absurd (let z : ⊥ = omega arith in z)
-stop-number Full e l h = absurd (let z : ⊥ = omega arith in z)
-stop-number LogFull e l h = absurd (let z : ⊥ = omega arith in z)
+fault-refuses : (f : Fault) → stops (faultNumber f) ≡ false
+fault-refuses (Length k) = refl
+fault-refuses (Kind k) = refl
+fault-refuses (Value k) = refl
+fault-refuses (Time k) = refl
+
+pub stop-stops : (s : Stop) → stops (stopNumber s) ≡ true
+stop-stops Limit = refl
+stop-stops Undefined = refl
+stop-stops Full = refl
+stop-stops LogFull = refl
+
+pub stop-number : {R : Type 0} (s : Stop) {j : ℕ} → stopNumber s ≡ j → stops j ≡ false → R
+stop-number s e h = absurd (true≢false (sym (stop-stops s) ∙ ap stops e ∙ h))
 
 -- the number of a told reply
 pub number : {t u : Told} → t ≡ u → t .number ≡ u .number
@@ -82,38 +91,56 @@ module _ (asked : Terms) (m : Machine) (given : Lent) where
     (λ e.
         end-cases asked m given (λ x. x .reply .number ≡ 1 → length (given .image) ≡ 65536 → ⊥)
         (λ l d. l)
+        (λ l k d. omega arith)
         (λ l r d. omega arith)
         (λ l r h d. omega arith)
         (λ p f e d. let b = fault-number f in omega (arith, b .0))
-        (λ p s d. stop-number (ranOf asked m given .stop) d (omega arith) (omega arith))
+        (λ p s d. stop-number (ranOf asked m given .stop) d refl)
         (number e)),
     (λ l. refused-reply (end-refused asked m given (refuses-1 asked m given l))),
   )
 
+  -- 12: "that area is not 128 bytes, tested straight after 1"
+  pub reply-12 : Replies (told 12 none) ↔ ((length (given .image) ≡ 65536) × (length (given .area) ≡ 128 → ⊥))
+  reply-12 = (
+    (λ e.
+        end-cases asked m given (λ x. x .reply .number ≡ 12 → (length (given .image) ≡ 65536) × (length (given .area) ≡ 128 → ⊥))
+        (λ l d. absurd (let z : ⊥ = omega arith in z))
+        (λ l k d. (l, k))
+        (λ l r d. absurd (let z : ⊥ = omega arith in z))
+        (λ l r h d. absurd (let z : ⊥ = omega arith in z))
+        (λ p f e d. absurd (let b = fault-number f in let z : ⊥ = omega (arith, b .1) in z))
+        (λ p s d. stop-number (ranOf asked m given .stop) d refl)
+        (number e)),
+    (λ h. refused-reply (end-refused asked m given (refuses-12 asked m given (h .0) (h .1)))),
+  )
+
   -- 2: "the machine is outside its ranges"
-  pub reply-2 : Replies (told 2 none) ↔ ((length (given .image) ≡ 65536) × (Ranges (m .chip .bus) → ⊥))
+  pub reply-2 : Replies (told 2 none) ↔ (Lengths given × (Ranges (m .chip .bus) → ⊥))
   reply-2 = (
     (λ e.
-        end-cases asked m given (λ x. x .reply .number ≡ 2 → (length (given .image) ≡ 65536) × (Ranges (m .chip .bus) → ⊥))
+        end-cases asked m given (λ x. x .reply .number ≡ 2 → Lengths given × (Ranges (m .chip .bus) → ⊥))
         (λ l d. absurd (let z : ⊥ = omega arith in z))
+        (λ l k d. absurd (let z : ⊥ = omega arith in z))
         (λ l r d. (l, outside m .0 r))
         (λ l r h d. absurd (let z : ⊥ = omega arith in z))
         (λ p f e d. absurd (let b = fault-number f in let z : ⊥ = omega (arith, b .0) in z))
-        (λ p s d. stop-number (ranOf asked m given .stop) d (omega arith) (omega arith))
+        (λ p s d. stop-number (ranOf asked m given .stop) d refl)
         (number e)),
     (λ h. refused-reply (end-refused asked m given (refuses-2 asked m given (h .0) (outside m .1 (h .1))))),
   )
 
   -- 3: "N is above 1,000,000,000"
-  pub reply-3 : Replies (told 3 none) ↔ ((length (given .image) ≡ 65536) × Ranges (m .chip .bus) × (1000000000 < asked .limit))
+  pub reply-3 : Replies (told 3 none) ↔ (Lengths given × Ranges (m .chip .bus) × (1000000000 < asked .limit))
   reply-3 = (
     (λ e.
-        end-cases asked m given (λ x. x .reply .number ≡ 3 → (length (given .image) ≡ 65536) × Ranges (m .chip .bus) × (1000000000 < asked .limit))
+        end-cases asked m given (λ x. x .reply .number ≡ 3 → Lengths given × Ranges (m .chip .bus) × (1000000000 < asked .limit))
         (λ l d. absurd (let z : ⊥ = omega arith in z))
+        (λ l k d. absurd (let z : ⊥ = omega arith in z))
         (λ l r d. absurd (let z : ⊥ = omega arith in z))
         (λ l r h d. (l, ranges-say (m .chip .bus) r, h))
         (λ p f e d. absurd (let b = fault-number f in let z : ⊥ = omega (arith, b .0) in z))
-        (λ p s d. stop-number (ranOf asked m given .stop) d (omega arith) (omega arith))
+        (λ p s d. stop-number (ranOf asked m given .stop) d refl)
         (number e)),
     (λ h. refused-reply (end-refused asked m given (refuses-3 asked m given (h .0) (say-ranges (m .chip .bus) (h .1)) (h .2)))),
   )
@@ -125,16 +152,17 @@ module _ (asked : Terms) (m : Machine) (given : Lent) where
         (λ e.
             end-cases asked m given (λ x. x .reply ≡ toldFault f → Passes × Answered (asked .session) (Bad f))
             (λ l d. absurd (let d = number d in let z : ⊥ = omega (arith, b .0) in z))
+            (λ l k d. absurd (let d = number d in let z : ⊥ = omega (arith, b .1) in z))
             (λ l r d. absurd (let d = number d in let z : ⊥ = omega (arith, b .0) in z))
             (λ l r h d. absurd (let d = number d in let z : ⊥ = omega (arith, b .0) in z))
             (λ p g h d. (p, exactly (asked .session) (Bad f) .0 (h ∙ ap Bad (fault-known g f d))))
-            (λ p s d. stop-number (ranOf asked m given .stop) (number d) (let l = b .0 in omega arith) (b .1))
+            (λ p s d. stop-number (ranOf asked m given .stop) (number d) (fault-refuses f))
             e),
         (λ h.
             let p = h .0 in
             refused-reply
             (end-refused asked m given
-            (session-decides asked m given (p .image-long) (say-ranges (m .chip .bus) (p .in-ranges)) (p .within)
+            (session-decides asked m given (p .lengths) (say-ranges (m .chip .bus) (p .in-ranges)) (p .within)
             ∙ ap toldCheck (exactly (asked .session) (Bad f) .1 (h .1))))),
       )
 
@@ -162,7 +190,7 @@ module _ (asked : Terms) (m : Machine) (given : Lent) where
   admitted-end h =
       let p = h .0 in
       end-ran asked m given
-      (session-decides asked m given (p .image-long) (say-ranges (m .chip .bus) (p .in-ranges)) (p .within) ∙ ap toldCheck (h .1))
+      (session-decides asked m given (p .lengths) (say-ranges (m .chip .bus) (p .in-ranges)) (p .within) ∙ ap toldCheck (h .1))
       (ranOf asked m given) refl
 
   stopped-by : (k : Stop) → Replies (toldStop k) ↔ (Admitted × Shows asked k (answerOf asked m given))
@@ -171,10 +199,11 @@ module _ (asked : Terms) (m : Machine) (given : Lent) where
       let shows = stop-shows asked (startWorld m given) in (
         (λ d.
             end-cases asked m given (λ x. x .reply ≡ toldStop k → Admitted × Shows asked k (answerAt x))
-            (λ l d. stop-number k (sym (number d)) (omega arith) (omega arith))
-            (λ l r d. stop-number k (sym (number d)) (omega arith) (omega arith))
-            (λ l r h d. stop-number k (sym (number d)) (omega arith) (omega arith))
-            (λ p f e d. let b = fault-number f in stop-number k (sym (number d)) (let l = b .0 in omega arith) (b .1))
+            (λ l d. stop-number k (sym (number d)) refl)
+            (λ l a d. stop-number k (sym (number d)) refl)
+            (λ l r d. stop-number k (sym (number d)) refl)
+            (λ l r h d. stop-number k (sym (number d)) refl)
+            (λ p f e d. stop-number k (sym (number d)) (fault-refuses f))
             (λ p f d. ((p, f), subst (λ (s : Stop). Shows asked s (answerAt (endAt (toldStop (e .stop)) (e .world)))) (stop-known (e .stop) k d) shows))
             d),
         (λ h.

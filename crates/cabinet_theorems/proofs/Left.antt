@@ -1,4 +1,4 @@
--- What a public run leaves behind: nothing changed and all counts zero after 1 to 7; and, whatever the reply, the bytes of the output
+-- What a public run leaves behind: nothing changed and all counts zero after a refusal; and, whatever the reply, the bytes of the output
 -- after the sent ones and of the log after its rows, the lengths, the machine's ranges and the bounds of the counts. Assumes nothing.
 use Prim.Native.Nat.{ℕ, _+_, _*_, _≤_}
 use native.Mathlib.Omega.{arith}
@@ -17,12 +17,12 @@ use Rattle.turns.specs.Recorded.{total}
 use Rattle.boundary_theorems.specs.Tallies.{Tally, talliesOf}
 use Rattle.boundary_theorems.proofs.LeapBound.{leap-bound}
 use Rattle.boundary.proofs.Output.{filled-part}
-use Rattle.boundary.proofs.Kept.{image-length, cycles-bound}
+use Rattle.boundary.proofs.Kept.{SameLengths, same-lengths, cycles-bound}
 use Rattle.boundary_theorems.proofs.InRanges.{run-ranges}
 use Rattle.boundary_theorems.proofs.Trace.{counts-told}
 use Rattle.boundary_theorems.proofs.Tallies.{amounts-told}
 use Rattle.log_theorems.proofs.Log as log
-use Rattle.replies.specs.Replies.{Told}
+use Rattle.replies.specs.Replies.{Told, stops}
 use Rattle.cabinet.specs.Answers.{End, Answer, answerAt, answerOf, leapsOf}
 use Rattle.cabinet.proofs.Ends.{end-cases, left-cases}
 use Rattle.cabinet_theorems.proofs.Exactly.{stop-number, Admitted, admitted-end}
@@ -59,17 +59,18 @@ module _ (asked : Terms) (m : Machine) (given : Lent) where
   untouched t =
       record { reply = t; machine = m; cycles = 0; instructions = 0; entries = 0; used = 0; sent = 0; lent = given }
 
-  -- "Replies 1 to 7 have all counts zero", and leave "image, output, machine unchanged", and the log
-  pub refused-untouched : let a = answerOf asked m given in 1 ≤ a .reply .number → a .reply .number ≤ 7
-      → (a ≡ untouched (a .reply)) × (leapsOf asked m given ≡ 0)
+  -- "Replies 1 to 7 have all counts zero", and leave "image, output, machine unchanged"; 12 leaves "what 1 leaves, all counts zero and every lent
+  -- buffer unchanged": so does every reply that is no stop
+  pub refused-untouched : let a = answerOf asked m given in stops (a .reply .number) ≡ false → (a ≡ untouched (a .reply)) × (leapsOf asked m given ≡ 0)
   refused-untouched =
       end-cases asked m given
-      (λ x. 1 ≤ x .reply .number → x .reply .number ≤ 7 → (answerAt x ≡ untouched (x .reply)) × (x .world .state .leaps .0 ≡ 0))
-      (λ l p q. (refl, refl))
-      (λ l r p q. (refl, refl))
-      (λ l r h p q. (refl, refl))
-      (λ a f e p q. (refl, refl))
-      (λ a f p q. stop-number (ranOf asked m given .stop) refl p q)
+      (λ x. stops (x .reply .number) ≡ false → (answerAt x ≡ untouched (x .reply)) × (x .world .state .leaps .0 ≡ 0))
+      (λ l p. (refl, refl))
+      (λ l k p. (refl, refl))
+      (λ l r p. (refl, refl))
+      (λ l r h p. (refl, refl))
+      (λ a f e p. (refl, refl))
+      (λ a f p. stop-number (ranOf asked m given .stop) refl p)
 
   -- "leaps ≤ records used + bytes sent + interrupts entered + 1"
   pub leaps-bound : let a = answerOf asked m given in leapsOf asked m given ≤ a .used + a .sent + a .entries + 1
@@ -96,10 +97,8 @@ module _ (asked : Terms) (m : Machine) (given : Lent) where
       start true = (omega arith, refl, refl, refl)
       start false = (omega arith, refl, refl, refl)
 
-  pub image-left : length (answerOf asked m given .lent .image) ≡ length (given .image)
-  image-left =
-      left-cases asked m given (λ w. length (w .lent .image) ≡ length (given .image)) refl
-      (λ f. image-length asked (startWorld m given))
+  pub lengths-left : SameLengths given (answerOf asked m given .lent)
+  lengths-left = left-cases asked m given (λ w. SameLengths given (w .lent)) (refl, refl) (λ f. same-lengths asked (startWorld m given))
 
   -- the machine that a run returns is in its ranges where the machine that it got is
   pub machine-left : Ranges (m .chip .bus) → Ranges (answerOf asked m given .machine .chip .bus)

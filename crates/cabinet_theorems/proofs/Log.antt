@@ -29,10 +29,10 @@ use Rattle.cabinet_theorems.proofs.Exactly.{fault-number, number, stop-
 -- a run that is not stopped with 11 is the run without a log, in all but the log
 module _ (t : Terms) (m : Machine) (l : Lent) where
   abbrev Runs : Ended → Type 0
-  Runs e = ranOf (terms (t .session) (t .limit)) m (lent (l .image) (l .output)) ≡ endedWith [] e
+  Runs e = ranOf (terms (t .session) (t .limit)) m (lent (l .image) (l .area) (l .output)) ≡ endedWith [] e
 
   silent-runs : Runs (ranOf (logging false t) m l)
-  silent-runs = sym (ordinary-run t (startWorld m (lent (l .image) (l .output)))) ∙ log-unread t m l []
+  silent-runs = sym (ordinary-run t (startWorld m (lent (l .image) (l .area) (l .output)))) ∙ log-unread t m l []
 
   enough-runs : (ranOf t m l .stop ≡ LogFull → ⊥) → Runs (ranOf t m l)
   enough-runs = by (t .watch .log) refl
@@ -64,10 +64,10 @@ module _ (asked : Terms) (m : Machine) (given : Lent) where
   ordinary = terms (asked .session) (asked .limit)
 
   abbrev pub plainAnswer : Answer
-  plainAnswer = answerOf ordinary m (lent (given .image) (given .output))
+  plainAnswer = answerOf ordinary m (lent (given .image) (given .area) (given .output))
 
   abbrev pub plainLeaps : ℕ
-  plainLeaps = leapsOf ordinary m (lent (given .image) (given .output))
+  plainLeaps = leapsOf ordinary m (lent (given .image) (given .area) (given .output))
 
   abbrev Plain : Type 0
   Plain = (plainAnswer ≡ answerWith [] (answerOf asked m given)) × (plainLeaps ≡ leapsOf asked m given)
@@ -79,7 +79,7 @@ module _ (asked : Terms) (m : Machine) (given : Lent) where
     where
       by : (o : Option Told)
           → let x = onRefusal o (startWorld m given) (ranOf asked m given) in
-          let p = onRefusal o (startWorld m (lent (given .image) (given .output))) (ranOf ordinary m (lent (given .image) (given .output))) in
+          let p = onRefusal o (startWorld m (lent (given .image) (given .area) (given .output))) (ranOf ordinary m (lent (given .image) (given .area) (given .output))) in
           (x .reply ≡ told 11 none → ⊥) → (answerAt p ≡ answerWith [] (answerAt x)) × (p .world .state .leaps .0 ≡ x .world .state .leaps .0)
       by (some r) n = (refl, refl)
       by none n =
@@ -109,6 +109,7 @@ module _ (asked : Terms) (m : Machine) (given : Lent) where
   stops-with-11 =
       end-cases asked m given (λ x. (x .reply ≡ told 11 none) ⊎ (x .reply ≡ told 11 none → ⊥))
       (λ l. inr (λ d. let n = number d in omega (arith, n)))
+      (λ l k. inr (λ d. let n = number d in omega (arith, n)))
       (λ l r. inr (λ d. let n = number d in omega (arith, n)))
       (λ l r h. inr (λ d. let n = number d in omega (arith, n)))
       (λ p f h. inr (λ d. let n = number d in let b = fault-number f .1 in omega (arith, n, b)))
@@ -145,8 +146,8 @@ module _ (asked : Terms) (m : Machine) (given : Lent) where
         let p = h .0 in
         let stop = stop-known (ranOf asked m given .stop) LogFull (ap (λ (x : End). x .reply) (sym (admitted-end asked m given h)) ∙ r) in
         let more = watching.exactly-11 asked m given .0 (ap (λ (t : Terms). ranOf t m given .stop) as-logging ∙ stop) in
-        let plain = admitted-end ordinary m (lent (given .image) (given .output))
-        (record { image-long = p .image-long; in-ranges = p .in-ranges; within = p .within }, h .1) in
+        let plain = admitted-end ordinary m (lent (given .image) (given .area) (given .output))
+        (record { lengths = p .lengths; in-ranges = p .in-ranges; within = p .within }, h .1) in
         let same = ap (λ (x : End). x .world .state .entries .0) plain in
         let silent = ap (λ (x : Ended). x .world .state .entries .0) (silent-runs asked m given) in
         omega (arith, more, same, silent)
@@ -182,6 +183,7 @@ module _ (asked : Terms) (m : Machine) (given : Lent) where
         end-cases asked m given
         (λ x. k < x .world .state .entries .0 → rows.Told asked m given k × (x .world .lent .log ≡ ranOf asked m given .world .lent .log))
         (λ l h. absurd (none h))
+        (λ l a h. absurd (none h))
         (λ l r h. absurd (none h))
         (λ l r b h. absurd (none h))
         (λ p f d h. absurd (none h))

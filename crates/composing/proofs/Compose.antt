@@ -20,7 +20,7 @@ use Rattle.boundary.specs.declared.Watch.{Watch}
 use Rattle.boundary.specs.World.{Lent, lending, withLog, Terms, watching, loggedBytes, World}
 use Rattle.boundary.specs.Boundary.{runOf}
 use Rattle.boundary.specs.Start.{startWorld, ranOf}
-use Rattle.boundary.proofs.Kept.{image-length}
+use Rattle.boundary.proofs.Kept.{same-lengths}
 use Rattle.boundary.proofs.Output.{filled-part}
 use Rattle.boundary_theorems.proofs.InRanges.{run-ranges}
 use Rattle.cabinet.specs.declared.Ran.{Ran}
@@ -55,6 +55,7 @@ admits : (t : Terms) (m : Machine) (given : Lent) → resumes (answerOf t m give
 admits t m given =
     end-cases t m given (λ x. resumes (x .reply) ≡ true → Admitted t m given × Resumes (ranOf t m given .stop))
     (λ l e. absurd (false≢true e))
+    (λ l k e. absurd (false≢true e))
     (λ l r e. absurd (false≢true e))
     (λ l r h e. absurd (false≢true e))
     (λ p f h e. fault-ends f e)
@@ -76,7 +77,7 @@ joins watch t t₁ w u v leaps inside e l =
       entries = x .entries .0 + y .entries .0;
       used = x .used .0 + y .used .0;
       sent = l k + y .sent .0;
-      lent = lending (v .lent .image)
+      lent = lending (v .lent .image) (v .lent .area)
           (take (x .sent .0) (u .lent .output) ++ v .lent .output)
           (take (loggedBytes watch (x .entries .0)) (u .lent .log) ++ v .lent .log);
     } in
@@ -115,7 +116,7 @@ module _ (session : List ℕ) (watch : Watch) (n₁ n : ℕ) (m : Machine) (give
     module _ (h : Admitted asked₁ m given) (l : n₁ ≤ n) (b : n ≤ 1000000000) where
       whole-end : endOf asked m (over log here) ≡ whole
       whole-end =
-          admitted-end asked m (over log here) (record { image-long = h .0 .image-long; in-ranges = h .0 .in-ranges; within = b }, h .1)
+          admitted-end asked m (over log here) (record { lengths = h .0 .lengths; in-ranges = h .0 .in-ranges; within = b }, h .1)
 
       -- the second run is not refused
       left-end : again log here ≡ left
@@ -124,7 +125,7 @@ module _ (session : List ℕ) (watch : Watch) (n₁ n : ℕ) (m : Machine) (give
           let s = w .state in
           admitted-end (termsAfter (s .used .0) (s .cycles .0) asked) (s .machine) (withLog (lentAfter watch (s .sent .0) (s .entries .0) (w .lent)) log) (
             record {
-              image-long = image-length asked₁ (startWorld m given) ∙ h .0 .image-long;
+              lengths = let k = same-lengths asked₁ (startWorld m given) in (k .0 ∙ h .0 .lengths .0, k .1 ∙ h .0 .lengths .1);
               in-ranges = ranges-say _ (run-ranges asked₁ m given (h .1) (say-ranges (m .chip .bus) (h .0 .in-ranges)));
               within = omega arith;
             },

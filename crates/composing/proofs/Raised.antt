@@ -64,7 +64,7 @@ raisedState d x leaps inside =
     }
 
 abbrev pub raisedLent : Past → Lent → Lent
-raisedLent d l = lending (l .image) (d .filled ++ l .output) (d .logged ++ l .log)
+raisedLent d l = lending (l .image) (l .area) (d .filled ++ l .output) (d .logged ++ l .log)
 
 abbrev pub raised : Past → World → ℕ → Bool → World
 raised d w leaps inside = worldOf (raisedState d (w .state) leaps inside) (raisedLent d (w .lent))
@@ -158,7 +158,7 @@ module _ (d : Past) where
         leaps = record { 0 = leaps };
         inside = false;
       })
-      (lending (w .lent .image) (byte k) (d .logged ++ w .lent .log))
+      (lending (w .lent .image) (w .lent .area) (byte k) (d .logged ++ w .lent .log))
 
   -- the row of an entry
   row-raised : (watch : Watch) (cause : Cause) (x : State) (leaps : ℕ) (inside : Bool)
@@ -180,7 +180,7 @@ module _ (d : Past) where
       let e = row-raised watch cause x leaps inside in
       let place = ap (λ (row : Row). cond (watch .log) (withRow row (d .entries + x .entries .0) log) log) e in
       let put = logged-behind (watch .log) (d .logged) (w .lent .log) (d .entries) (x .entries .0) (rowOf (later watch (d .cycles)) cause x) full in
-      ap (λ (l : List ℕ). worldOf one (lending (w .lent .image) (d .filled ++ w .lent .output) l)) (place ∙ put)
+      ap (λ (l : List ℕ). worldOf one (lending (w .lent .image) (w .lent .area) (d .filled ++ w .lent .output) l)) (place ∙ put)
 
 module _ (s r : List ℕ) (d : Past) (before : ℕ) where
   -- the one state, and the one world, is the other with what was before it

@@ -36,7 +36,7 @@ nmiAt time = 6 ∷ 0 ∷ 4 ∷ 0 ∷ time ∷ 0 ∷ 0 ∷ 0 ∷ []
 
 -- it waits, with TE and TIE set and the byte 41 to be sent
 abbrev asker : Machine
-asker = onBus (start true) (writeOf 0x13 0x41 (readOf (memories []) 0x11 (writeOf 0x11 0x06 (start true .chip .bus)) .next))
+asker = onBus (start true) (writeOf 0x13 0x41 (readOf (memories [] []) 0x11 (writeOf 0x11 0x06 (start true .chip .bus)) .next))
 
 -- a run with the log, so many cycles after a first one, with room for a byte of output
 abbrev asked : List ℕ → ℕ → ℕ → Terms
@@ -47,7 +47,7 @@ abbrev both : Terms
 both = asked (irq1At 0 ++ nmiAt 0) 4 0
 
 abbrev ran : Terms → Machine → List ℕ → Ended
-ran t m log = ranOf t m (lending blank (7 ∷ []) log)
+ran t m log = ranOf t m (lending blank [] (7 ∷ []) log)
 
 abbrev logOf : Ended → List ℕ
 logOf e = e .world .lent .log
@@ -58,7 +58,7 @@ table =
     ∷ (told (ran both (start true) (replicate 12 9)) is 0 ∷ 4 ∷ 0 ∷ 1 ∷ 2 ∷ 0 ∷ 0 ∷ 0 ∷ [])
     ∷ (told (ran both (start true) (replicate 7 9)) is 11 ∷ 0 ∷ 0 ∷ 0 ∷ 2 ∷ 0 ∷ 0 ∷ 4 ∷ [])  -- no room: 11, the records applied, nothing entered
     ∷ (logOf (ran both (start true) (replicate 7 9)) is replicate 7 9)
-    ∷ (rowsBytes (wakesOf (terms (irq1At 0 ++ nmiAt 0) 4) (startWorld (start true) (lending blank [] [])))  -- the same entry, with no log asked for
+    ∷ (rowsBytes (wakesOf (terms (irq1At 0 ++ nmiAt 0) 4) (startWorld (start true) (lending blank [] [] [])))  -- the same entry, with no log asked for
     is 0 ∷ 0 ∷ 0 ∷ 0 ∷ 0 ∷ 2 ∷ 0 ∷ 0 ∷ [])
     ∷ (logOf (ran (asked (irq1At 0 ++ nmiAt 12) 24 0) (start false) (replicate 16 9))  -- IRQ1 at 0, and with I set NMI at 12
     is 0 ∷ 0 ∷ 0 ∷ 0 ∷ 1 ∷ 0 ∷ 0 ∷ 0 ∷ 12 ∷ 0 ∷ 0 ∷ 0 ∷ 0 ∷ 0 ∷ 0 ∷ 0 ∷ [])
