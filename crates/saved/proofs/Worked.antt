@@ -19,7 +19,7 @@ use Rattle.saved.specs.Answers.{standsOf, rangesIn, loadOf}
 
 -- power-on of an image whose bytes are 0, all memory writable
 abbrev pub powered : Machine
-powered = resetOf (memories []) (cold 65536)
+powered = resetOf (memories [] []) (cold 65536)
 
 -- codes D0, IRQ1 high, port 1 pins FF, port 2 pins 1A with mode 2, compare FFFF, TRCS 20, $14 40, R 65,536; all else 0
 abbrev pub poweredBytes : List ℕ
