@@ -130,7 +130,7 @@ class Code:
             lambda: bytes([0x96, 0x11, 0xD6, 0x12, 0x96, 0x11]), lambda: bytes([0xD6, 0x12]), lambda: bytes([0x96, 0x11]),
             lambda: bytes([0x7F, 0, 0x11, 0x97, 0x13]) + store(2, 0x11),
             # ports, RAM control, any register
-            lambda: store(r.randrange(256), r.choice([0, 1, 2, 3, 0x14, 0x14])), lambda: bytes([0x96, at]), lambda: bytes([0xD6, r.choice([2, 3, 0x14])]),
+            lambda: store(r.randrange(256), r.choice([0, 1, 2, 3, 0x14, 0x14])), lambda: store(r.choice([0x00, 0x40, 0x80, 0xC0]), 0x14), lambda: bytes([0x96, at]), lambda: bytes([0xD6, r.choice([2, 3, 0x14])]),
             lambda: bytes([r.choice([0x70, 0x73, 0x74, 0x78, 0x7A, 0x7C, 0x7D, 0x7F, 0x7F]), 0, at]),
             lambda: bytes([0xCC, 0x39, 0x39, 0xDD, memory, 0x9D, memory]) if memory < self.read_only else bytes([0xDD, memory]),
             lambda: bytes([0xCE]) + big(at) + bytes([r.choice([0x60, 0x63, 0x64, 0x68, 0x6A, 0x6C, 0x6D, 0x6F]), 0]),
@@ -199,10 +199,13 @@ class Code:
         return load(at, answer.ljust(50, bytes([1])) + b"".join(ways)), [at + 50 + 10 * i for i in range(7)]
 
     def folded(self):
-        """Goes straight on, then folds $00 to $2FF and itself into the registers and waits, so that what it did shows in the line."""
+        """Goes straight on, then folds $00 to $2FF, itself and $80 to $FF of either memory into the registers and waits, so that what it did shows."""
         out = self.straight(b"")
         fold = lambda first, past: bytes([0xCE]) + big(first) + bytes([0xE8, 0, 0x59, 0xA9, 0, 0x49, 8, 0x8C]) + big(past) + bytes([0x26, 0xF4])
-        out += bytes([0x0F]) + fold(0, self.r.choice([0x140, 0x300])) + fold(self.start, self.start + len(out)) + bytes([0xDE, 0x80, 0x3E])
+        out += bytes([0x0F]) + fold(0, self.r.choice([0x140, 0x300])) + fold(self.start, self.start + len(out))
+        clear, set_both = bytes([0x7F, 0, 0x14]), bytes([0x7F, 0, 0x14, 0x73, 0, 0x14])  # CLR $14; then COM $14
+        out += b"".join(switch + fold(0x80, 0x100) for switch in self.r.sample([clear, set_both], 2))
+        out += bytes([0xDE, 0x80, 0x3E])
         self.size = len(out)
         return out
 
@@ -309,7 +312,7 @@ def spoiled(r, records):
 
 def made(r):
     limit = r.randrange(3000000) if r.random() < 0.03 else r.choice([r.randrange(200), r.randrange(3000), r.randrange(20000), r.randrange(20000), r.randrange(150000) if r.random() < 0.3 else 500])
-    read_only = r.choice([65536, 65536, 57344, 0, r.randrange(65537), r.randrange(0x200, 0x300), r.randrange(0x100), r.choice([4, 5, 6, 7, 8, 15, 16, 0x20, 0x80, 0xA0, 0x100])])
+    read_only = r.choice([65536, 65536, 57344, 0, r.randrange(65537), r.randrange(0x200, 0x300), r.randrange(0x100), r.choice([4, 5, 6, 7, 8, 15, 16, 0x20, 0x80, 0x81, 0xA0, 0xC0, 0xFF, 0x100])])
     head = Code(r, limit, read_only).loads()
     p = r.random()
     if p < 0.01:

@@ -1,4 +1,4 @@
-/* A plain emulator of the HD6803 by the rules paper (01) and the HD6803 sheet (004): one switch over the opcode, waiting
+/* A plain emulator of the HD6803 by the rules paper (01), the change requests (02) and the HD6803 sheet (004): one switch over the opcode, waiting
    cycles passed singly. It is here for comparison only: nothing is proved about it, and nothing else uses it.
    It reads the bench program's input on standard input and prints the bench program's line. cc -O2 -o emulator emulator.c */
 #include <stdbool.h>
@@ -27,6 +27,7 @@ struct machine {
 
 static struct machine m;
 static uint8_t memory[65536];
+static uint8_t area[128]; /* the external memory at $80 to $FF */
 static uint8_t output[ROOM];
 static uint32_t cycles, instructions, entries, used, sent;
 
@@ -121,13 +122,24 @@ static void write_register(unsigned at, uint8_t value) {
 
 /* ---- Memory ---- */
 
+static inline bool at_ram(uint16_t at) { return (at & 0xFF80) == 0x0080; }
+static inline bool in_area(uint16_t at) { return at_ram(at) && !(m.ram_control & 0x40); }
+
 static inline uint8_t read(uint16_t at) {
-  return at >= 0x20 ? memory[at] : read_register(at);
+  if (at < 0x20) return read_register(at);
+  return in_area(at) ? area[at - 0x80] : memory[at];
+}
+
+/* What a read gives, without its effects. */
+static inline uint8_t look(uint16_t at) {
+  return at < 0x20 ? look_register(at) : read(at);
 }
 
 static inline void write(uint16_t at, uint8_t value) {
   if (at < 0x20) write_register(at, value);
-  else if (at < m.read_only || (at & 0xFF80) == 0x0080) memory[at] = value;
+  else if (in_area(at)) {
+    if (at < m.read_only) area[at - 0x80] = value;
+  } else if (at < m.read_only || at_ram(at)) memory[at] = value;
 }
 
 static inline uint16_t read2(uint16_t at) {
@@ -496,7 +508,7 @@ static int run(uint32_t limit, const uint8_t *session, const uint8_t *end) {
     } else if (m.waiting) {
       pass(1);
     } else {
-      uint8_t opcode = m.pc >= 0x20 ? memory[m.pc] : look_register(m.pc);
+      uint8_t opcode = look(m.pc);
       unsigned taken = cycles_of[opcode];
       if (taken == 0) return 8;
       fetch();

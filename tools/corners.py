@@ -3,7 +3,7 @@
 
     python3 tools/corners.py        writes crates/corners/stdin and crates/corners/stdout
 
-The rows of the page's last table are taken as they stand. Those of $00 to $1F are worked out here from 01's words on each
+The single rows of the page's tables are taken as they stand. Those of $00 to $1F are worked out here from 01's words on each
 register, which the page's first table repeats. A row is its name (24 columns), R, the number of instructions, and the code.
 """
 BEFORE = {

@@ -7,7 +7,7 @@ use mathlib.Core.Logic.{_↔_}
 use mathlib.Core.Bool.{Bool, true, false, cond}
 use mathlib.Core.List.{List, [], _++_}
 use mathlib.Core.Option.{Option, none, some}
-use lib.ListN.{length, getD, replicate}
+use lib.ListN.{length, getD, replicate, length-replicate}
 use Rattle.asking.specs.Asking.{Given, gives, replies}
 use Rattle.power.specs.Power.{toldPower}
 use Rattle.replies.specs.Replies.{stops}
@@ -46,7 +46,7 @@ text-short a = by (stops (a .reply .number))
 power-short : (image session : List ℕ) (n : ℕ) (p : Given Machine) → Short 200 (poweredText image session n p)
 unfolding poweredText
 power-short image session n (replies k) = refused-short k none
-power-short image session n (gives m) = text-short (answerOf (terms session n) m (lent image (replicate 256 0)))
+power-short image session n (gives m) = text-short (answerOf (terms session n) m (lent image (replicate 128 0) (replicate 256 0)))
 
 input-short : (input : List ℕ) (g : Given Request) → Short 200 (inputText input g)
 unfolding inputText
@@ -100,7 +100,8 @@ unfolding poweredText
 power-other image session n power.WrongImage e = refused-other 1 none (omega arith) e
 power-other image session n power.WrongStart e = refused-other 2 none (omega arith) e
 power-other image session n (power.On m) e =
-    text-other (answerOf (terms session n) m (lent image (replicate 256 0))) (refusal-most (terms session n) m (lent image (replicate 256 0))) e
+    let given = lent image (replicate 128 0) (replicate 256 0) in
+    text-other (answerOf (terms session n) m given) (refusal-most (terms session n) m given (length-replicate 128 0)) e
 
 input-other : (input : List ℕ) (n r start : ℕ) → IsTen (inputText input (toldInput (Run n r start))) → ⊥
 unfolding inputText

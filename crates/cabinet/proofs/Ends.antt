@@ -2,7 +2,7 @@
 use Prim.Native.Nat.{ℕ, _≤_, _<_}
 use native.Mathlib.Omega.{arith}
 use mathlib.Core.Path.{_≡_, refl, sym, ap, subst, _∙_}
-use mathlib.Core.Bool.{Bool, true, false, not}
+use mathlib.Core.Bool.{Bool, true, false, not, true≢false}
 use mathlib.Core.Option.{Option, none, some}
 use lib.Dec.{eqb, ltb}
 use lib.ListN.{length}
@@ -15,7 +15,7 @@ use Rattle.session.specs.declared.Fault.the-variants as fault
 use Rattle.session.specs.declared.Checked.{Checked}
 use Rattle.session.specs.declared.Checked.the-variants.{Sound, Bad}
 use Rattle.replies.specs.declared.Reply.{Reply}
-use Rattle.replies.specs.Replies.{Told, told, toldReply, toldFault, toldCheck}
+use Rattle.replies.specs.Replies.{Told, told, toldReply, toldFault, toldCheck, stops}
 use Rattle.machine.specs.declared.Machine.{Machine}
 use Rattle.machine.specs.Machine.{Ranges, rangesOf}
 use Rattle.machine.proofs.Ranges.{ranges-say}
@@ -175,3 +175,21 @@ reply-most asked m given =
     (λ l r h. omega arith)
     (λ p f e. let h = fault-most f in omega arith)
     (λ p e. stop-most (ranOf asked m given .stop))
+
+-- with a right area those of refusals are at most 7
+pub stop-stops : (s : Stop) → stops (stopNumber s) ≡ true
+stop-stops stop.Limit = refl
+stop-stops stop.Undefined = refl
+stop-stops stop.Full = refl
+stop-stops stop.LogFull = refl
+
+pub refusal-most : (asked : Terms) (m : Machine) (given : Lent) → length (given .area) ≡ 128
+    → let k = answerOf asked m given .reply .number in stops k ≡ false → k ≤ 7
+refusal-most asked m given right =
+    end-cases asked m given (λ x. stops (x .reply .number) ≡ false → x .reply .number ≤ 7)
+    (λ l e. omega arith)
+    (λ l k e. absurd (k right))
+    (λ l r e. omega arith)
+    (λ l r h e. omega arith)
+    (λ p f s e. fault-most f)
+    (λ p s e. absurd (true≢false (sym (stop-stops (ranOf asked m given .stop)) ∙ e)))

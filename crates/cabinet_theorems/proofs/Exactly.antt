@@ -23,7 +23,7 @@ use Rattle.laws.proofs.Known.{known}
 use Rattle.replies.specs.Replies.{Told, told, toldFault, toldCheck, stops}
 use Rattle.replies.proofs.Known.{fault-known}
 use Rattle.cabinet.specs.Answers.{toldStop, End, endAt, endOf, answerAt, answerOf}
-use Rattle.cabinet.proofs.Ends.{Lengths, Passed, refuses-1, refuses-12, refuses-2, refuses-3, session-decides, end-refused, end-ran, end-cases}
+use Rattle.cabinet.proofs.Ends.{Lengths, Passed, stop-stops, refuses-1, refuses-12, refuses-2, refuses-3, session-decides, end-refused, end-ran, end-cases}
 use Rattle.cabinet_theorems.proofs.Stops.{Shows, shown-once, stop-shows}
 
 -- the number of a refusal by the session is 4 to 7, and no refusal's number is a stop's
@@ -38,12 +38,6 @@ fault-refuses (Length k) = refl
 fault-refuses (Kind k) = refl
 fault-refuses (Value k) = refl
 fault-refuses (Time k) = refl
-
-pub stop-stops : (s : Stop) → stops (stopNumber s) ≡ true
-stop-stops Limit = refl
-stop-stops Undefined = refl
-stop-stops Full = refl
-stop-stops LogFull = refl
 
 pub stop-number : {R : Type 0} (s : Stop) {j : ℕ} → stopNumber s ≡ j → stops j ≡ false → R
 stop-number s e h = absurd (true≢false (sym (stop-stops s) ∙ ap stops e ∙ h))

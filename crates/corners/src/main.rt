@@ -1,4 +1,4 @@
-// Instructions that meet the registers and the edges of memory: standard input has the rows, and each
+// Instructions that meet the registers, the edges of memory and the area: standard input has the rows, and each
 // answer says all that is not as it was before the row. docs/CASES.md explains the rows.
 use arithmetic::Codes;
 use bits::Flag;
@@ -27,6 +27,11 @@ const CODE: u16 = 32;
 const LONGEST: u16 = 16;
 
 const ORIGIN: u16 = 0x1000;
+
+// The first byte of the image and of the area before a row; each next byte is one more.
+const IMAGE: u8 = 0x00;
+
+const AREA: u8 = 0xB0;
 
 struct Ran {
     machine: Machine,
@@ -119,14 +124,14 @@ fn start(r: u32) -> Machine {
     }
 }
 
-// The image before a row: each byte is the low byte of its address.
-fn pattern(at: usize) -> u8 {
-    (at % 256) as u8
+// Byte k of a memory before a row.
+fn pattern(first: u8, k: usize) -> u8 {
+    ((first as usize + k % 256) % 256) as u8
 }
 
-fn fill(image: &mut [u8]) {
-    for at in 0..image.len() {
-        image[at] = pattern(at);
+fn fill(memory: &mut [u8], first: u8) {
+    for k in 0..memory.len() {
+        memory[k] = pattern(first, k);
     }
 }
 
@@ -150,9 +155,9 @@ fn start_of(row: &[u8]) -> u32 {
     digit(peek(row, R)) as u32 * 65536 + low as u32
 }
 
-fn put(image: &mut [u8], at: usize, v: u8) {
-    if at < image.len() {
-        image[at] = v;
+fn put(memory: &mut [u8], k: usize, v: u8) {
+    if k < memory.len() {
+        memory[k] = v;
     }
 }
 
@@ -167,11 +172,11 @@ fn load(row: &[u8], image: &mut [u8]) {
 
 impl Ran {
     // One instruction further; none where the opcode is undefined.
-    fn further(self, image: &mut [u8]) -> Ran {
-        let Look::Runs(i) = self.machine.look(image) else {
+    fn further(self, image: &mut [u8], area: &mut [u8]) -> Ran {
+        let Look::Runs(i) = self.machine.look(image, area) else {
             return self;
         };
-        let moved = self.machine.step(i, image);
+        let moved = self.machine.step(i, image, area);
         let machine = moved.machine;
         Ran {
             machine: machine,
@@ -180,13 +185,13 @@ impl Ran {
     }
 }
 
-fn run(machine: Machine, steps: u8, image: &mut [u8]) -> Ran {
+fn run(machine: Machine, steps: u8, image: &mut [u8], area: &mut [u8]) -> Ran {
     let mut ran = Ran {
         machine: machine,
         cycles: 0,
     };
     for _ in 0..steps {
-        ran = ran.further(image);
+        ran = ran.further(image, area);
     }
     ran
 }
@@ -266,24 +271,29 @@ fn show_machine(was: Machine, is: Machine) {
     show_bit(b"standby", before.standby, after.standby);
 }
 
-// A byte of the image, unless it is the row's code.
-fn show_cell(at: usize, v: u8) {
-    if (at < ORIGIN as usize) | ((ORIGIN + LONGEST) as usize <= at) {
-        io::write_all(1, b" [");
-        io::print_hex(1, at as u64, 4);
+// A byte of a memory by its address, unless it is the row's code.
+fn show_cell(name: &[u8], at: u64, v: u8) {
+    if (at < ORIGIN as u64) | ((ORIGIN + LONGEST) as u64 <= at) {
+        io::write_all(1, name);
+        io::print_hex(1, at, 4);
         io::write_all(1, b"] ");
         io::print_hex(1, v as u64, 2);
     }
 }
 
-// The bytes that are not of the pattern, which they then are again.
-fn show_image(image: &mut [u8]) {
-    for at in 0..image.len() {
-        if image[at] != pattern(at) {
-            show_cell(at, image[at]);
-            put(image, at, pattern(at));
+// The bytes that are not of the pattern, which they then are again; `at` is the address of the first.
+fn show_memory(name: &[u8], at: u64, memory: &mut [u8], first: u8) {
+    for k in 0..memory.len() {
+        if memory[k] != pattern(first, k) {
+            show_cell(name, std::num::wrapping_add_u64(at, k as u64), memory[k]);
+            put(memory, k, pattern(first, k));
         }
     }
+}
+
+fn show_memories(image: &mut [u8], area: &mut [u8]) {
+    show_memory(b" [", 0, image, IMAGE);
+    show_memory(b" area[", 0x80, area, AREA);
 }
 
 fn show_name(row: &[u8]) {
@@ -292,16 +302,16 @@ fn show_name(row: &[u8]) {
 }
 
 // A row's answer.
-fn answer(row: &[u8], image: &mut [u8]) {
+fn answer(row: &[u8], image: &mut [u8], area: &mut [u8]) {
     let machine = start(start_of(row));
     load(row, image);
-    let ran = run(machine, digit(peek(row, STEPS)), image);
+    let ran = run(machine, digit(peek(row, STEPS)), image, area);
     let after = ran.machine;
     show_name(row);
     io::write_all(1, b"cycles ");
     io::print_decimal(1, ran.cycles);
     show_machine(machine, after);
-    show_image(image);
+    show_memories(image, area);
     io::write_all(1, b"\n");
 }
 
@@ -320,11 +330,11 @@ fn line_length(text: &[u8]) -> usize
     n
 }
 
-fn answer_all(text: &[u8], image: &mut [u8]) {
+fn answer_all(text: &[u8], image: &mut [u8], area: &mut [u8]) {
     let mut at = 0;
     while at < text.len() {
         let end = at + line_length(&text[at..]);
-        answer(&text[at..end], image);
+        answer(&text[at..end], image, area);
         at = end;
     }
 }
@@ -333,6 +343,8 @@ fn main() {
     let mut text = io::large_buffer();
     let n = io::read_full(0, &mut text);
     let mut image = io::large_buffer();
-    fill(&mut image);
-    answer_all(&text[..n], &mut image);
+    let mut area = [0u8; 128];
+    fill(&mut image, IMAGE);
+    fill(&mut area, AREA);
+    answer_all(&text[..n], &mut image, &mut area);
 }

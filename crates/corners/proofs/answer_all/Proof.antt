@@ -1,4 +1,4 @@
--- `corners::answer_all` is safe, keeps the image's length and ends: each turn moves `at` past a line. Assumes nothing.
+-- `corners::answer_all` is safe, keeps the lengths of image and area, and ends: each turn moves `at` past a line. Assumes nothing.
 use Prim.Native.Nat.{_≤_, _-_}
 use borrow.Author.Needs.{needs}
 use mathlib.Core.Path.{_≡_}
@@ -7,10 +7,10 @@ use Rattle.corners.proofs.answer_all.Statement.{statement}
 use Rattle.corners.proofs.answer_all.Tie as tie
 
 abbrev Inv-loop : tie.InvT-loop
-Inv-loop text image₀ at₀ image at = (at ≤ length text) × (length image ≡ length image₀)
+Inv-loop text image₀ area₀ at₀ image area at = (at ≤ length text) × (length image ≡ length image₀) × (length area ≡ length area₀)
 
 abbrev μ-loop : tie.MeasureT-loop
-μ-loop text image₀ at₀ image at = length text - at
+μ-loop text image₀ area₀ at₀ image area at = length text - at
 
 pub answer-all-spec : {M : Type 1} → statement M
 answer-all-spec =
@@ -31,4 +31,5 @@ answer-all-spec =
     (λ c. search needs)  -- loop-less
     (λ c. search needs)  -- loop-again
     (λ c. search needs)  -- same-length
+    (λ c. search needs)  -- same-length-2
     (λ c. search needs))  -- returns

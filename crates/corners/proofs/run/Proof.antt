@@ -1,4 +1,4 @@
--- `corners::run` is safe and keeps the image's length. Assumes nothing.
+-- `corners::run` is safe and keeps the lengths of image and area. Assumes nothing.
 use Prim.Native.Nat.{_-_}
 use borrow.Author.Needs.{needs}
 use mathlib.Core.Path.{_≡_}
@@ -7,10 +7,10 @@ use Rattle.corners.proofs.run.Statement.{statement}
 use Rattle.corners.proofs.run.Tie as tie
 
 abbrev Inv-loop : tie.InvT-loop
-Inv-loop steps image₀ ran₀ counter₀ image ran counter = length image ≡ length image₀
+Inv-loop steps image₀ area₀ ran₀ counter₀ image area ran counter = (length image ≡ length image₀) × (length area ≡ length area₀)
 
 abbrev μ-loop : tie.MeasureT-loop
-μ-loop steps image₀ ran₀ counter₀ image ran counter = steps - counter
+μ-loop steps image₀ area₀ ran₀ counter₀ image area ran counter = steps - counter
 
 pub run-spec : {M : Type 1} → statement M
 run-spec =
@@ -24,4 +24,5 @@ run-spec =
     (λ c. search needs)  -- loop-less
     (λ c. search needs)  -- loop-again
     (λ c. search needs)  -- same-length
+    (λ c. search needs)  -- same-length-2
     (λ c. search needs))  -- returns

@@ -1,20 +1,20 @@
--- `corners::show_image` is safe and keeps the image's length. Assumes nothing.
+-- `corners::show_memory` is safe and keeps the memory's length. Assumes nothing.
 use Prim.Native.Nat.{_≤_, _-_}
 use borrow.Author.Needs.{needs}
 use mathlib.Core.Logic.{⊎-elim}
 use mathlib.Core.Path.{_≡_}
 use lib.ListN.{length}
-use Rattle.corners.proofs.show_image.Statement.{statement}
-use Rattle.corners.proofs.show_image.Tie as tie
+use Rattle.corners.proofs.show_memory.Statement.{statement}
+use Rattle.corners.proofs.show_memory.Tie as tie
 
 abbrev Inv-loop : tie.InvT-loop
-Inv-loop image₀ at₀ at-end image at = (at-end ≡ length image₀) × (at ≤ at-end) × (length image ≡ length image₀)
+Inv-loop name at memory₀ first k₀ k-end memory k = (k-end ≡ length memory₀) × (k ≤ k-end) × (length memory ≡ length memory₀)
 
 abbrev μ-loop : tie.MeasureT-loop
-μ-loop image₀ at₀ at-end image at = at-end - at
+μ-loop name at memory₀ first k₀ k-end memory k = k-end - k
 
-pub show-image-spec : {M : Type 1} → statement M
-show-image-spec =
+pub show-memory-spec : {M : Type 1} → statement M
+show-memory-spec =
     tie.close
     (tie.spec
     Inv-loop
@@ -22,11 +22,12 @@ show-image-spec =
     (λ c. search needs)  -- loop-holds
     (λ c. search needs)  -- slice-read-if1
     (λ c κs. search needs)  -- pattern-requires
+    (λ c κs. search needs)  -- wrapping-add-u64-requires
     (λ c. search needs)  -- slice-read-show-cell
     (λ c κs. search needs)  -- show-cell-requires
     (λ c κs. search needs)  -- pattern-requires-2
     (λ c κs. search needs)  -- put-requires
-    (λ c. search needs)  -- add-at
+    (λ c. search needs)  -- add-k
     (λ c. search needs)  -- loop-less
     (λ c. ⊎-elim (λ w. search needs) (λ w. search needs) (c .if1 .came))  -- loop-again
     (λ c. search needs)  -- same-length
