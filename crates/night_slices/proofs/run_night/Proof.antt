@@ -54,30 +54,30 @@ slice-requires c κs = let i = c .before .before .before .before .before .before
 goes-on-requires : tie.Need-goes-on-requires Inv-loop μ-loop
 goes-on-requires c κs = search needs
 
+same-length : tie.Need-same-length Inv-loop μ-loop
+same-length c = search needs
+
+same-length-2 : tie.Need-same-length-2 Inv-loop μ-loop
+same-length-2 c = search needs
+
+same-length-3 : tie.Need-same-length-3 Inv-loop μ-loop
+same-length-3 c = search needs
+
+same-length-4 : tie.Need-same-length-4 Inv-loop μ-loop
+same-length-4 c = search needs
+
+same-length-5 : tie.Need-same-length-5 Inv-loop μ-loop
+same-length-5 c = search needs
+
+same-length-6 : tie.Need-same-length-6 Inv-loop μ-loop
+same-length-6 c = search needs
+
 -- the slice of a turn, and the turn's start
 abbrev ran : tie.After-goes-on Inv-loop μ-loop → tie.After-slice Inv-loop μ-loop
 ran c = c .before .before .before .before .before .before .before .before .before .before .before .before .before
 
 abbrev top : tie.After-slice Inv-loop μ-loop → tie.At-loop Inv-loop μ-loop
 top s = s .before .before .before .before .before .before .before
-
-same-length : tie.Need-same-length Inv-loop μ-loop
-same-length c = let s = ran (c .before) in s .slice .kept .0 ∙ top s .loop .inv .1
-
-same-length-2 : tie.Need-same-length-2 Inv-loop μ-loop
-same-length-2 c = let s = ran (c .before) in s .slice .kept .1 .0 ∙ top s .loop .inv .2
-
-same-length-3 : tie.Need-same-length-3 Inv-loop μ-loop
-same-length-3 c = let s = ran (c .before) in s .slice .kept .1 .1 .0 ∙ top s .loop .inv .3
-
-same-length-4 : tie.Need-same-length-4 Inv-loop μ-loop
-same-length-4 c = let s = ran (c .before) in s .slice .kept .1 .1 .1 .0 ∙ top s .loop .inv .4
-
-same-length-5 : tie.Need-same-length-5 Inv-loop μ-loop
-same-length-5 c = let s = ran (c .before) in s .slice .kept .1 .1 .1 .1 .0 ∙ top s .loop .inv .5
-
-same-length-6 : tie.Need-same-length-6 Inv-loop μ-loop
-same-length-6 c = let s = ran (c .before) in s .slice .kept .1 .1 .1 .1 .1 .0 ∙ top s .loop .inv .6
 
 -- the night that the slice began with
 abbrev began : tie.After-goes-on Inv-loop μ-loop → Standing
