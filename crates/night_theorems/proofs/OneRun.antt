@@ -30,8 +30,8 @@ use Rattle.boundary.proofs.Kept.{same-lengths}
 use Rattle.boundary.proofs.Output.{filled-part}
 use Rattle.boundary_theorems.proofs.InRanges.{run-ranges}
 use Rattle.cabinet.specs.Answers.{toldStop, End, endAt, endOf, Answer, answerAt}
-use Rattle.cabinet.proofs.Ends.{Lengths}
-use Rattle.cabinet_theorems.proofs.Exactly.{stop-stops, admitted-end}
+use Rattle.cabinet.proofs.Ends.{Lengths, stop-stops}
+use Rattle.cabinet_theorems.proofs.Exactly.{admitted-end}
 use Rattle.cabinet_theorems.proofs.Left.{log-part}
 use Rattle.rest.specs.Rest.{placeOf, restOf}
 use Rattle.rest.proofs.Exactly.{rest-written}
