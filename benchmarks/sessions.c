@@ -5,7 +5,7 @@
 #include <stdio.h>
 #include <stdlib.h>
 
-static uint8_t image[PLIRUZZA_IMAGE], machine[PLIRUZZA_MACHINE], result[PLIRUZZA_LEAPING], output[1];
+static uint8_t image[PLIRUZZA_IMAGE], area[PLIRUZZA_AREA], machine[PLIRUZZA_MACHINE], result[PLIRUZZA_LEAPING], output[1];
 
 static void put(uint8_t *to, int bytes, uint32_t n) {
     for (int i = 0; i < bytes; i++) to[i] = (uint8_t)(n >> 8 * i);
@@ -25,8 +25,8 @@ int main(int count, char **words) {
     image[0xE000] = 0x3E; /* WAI */
     image[0xFFFE] = 0xE0;
     if (pliruzza_power_on(image, sizeof image, 65536, machine, sizeof machine)) return 1;
-    uint32_t stop = pliruzza_run_leaping(image, sizeof image, machine, sizeof machine, session, 9 * (size_t)records, 10 * records + 100, output, sizeof output,
-                                         result, sizeof result);
+    uint32_t stop = pliruzza_run_leaping(image, sizeof image, area, sizeof area, machine, sizeof machine, session, 9 * (size_t)records, 10 * records + 100,
+                                         output, sizeof output, result, sizeof result);
     printf("stop %u used %u\n", stop, result[16] | result[17] << 8 | result[18] << 16);
     return 0;
 }

@@ -42,7 +42,8 @@ static const struct event night[] = {
 };
 #define EVENTS (sizeof night / sizeof night[0])
 
-static uint8_t image[PLIRUZZA_IMAGE];
+/* The two memories, kept from slice to slice. The ROM never clears bit 6 of $14, so the area stays as it is: zeros. */
+static uint8_t image[PLIRUZZA_IMAGE], area[PLIRUZZA_AREA];
 
 static void load(size_t at, const char *bytes, size_t length) { memcpy(image + at, bytes, length); }
 
@@ -106,7 +107,7 @@ static int run_night(uint8_t *machine) {
         uint8_t session[16 * EVENTS], output[16], result[PLIRUZZA_LEAPING];
         uint64_t end = (slice + 1) * (uint64_t)HOUR;
         size_t length = session_of(next, now, end, session);
-        uint32_t reply = pliruzza_run_leaping(image, sizeof image, machine, PLIRUZZA_MACHINE, session, length,
+        uint32_t reply = pliruzza_run_leaping(image, sizeof image, area, sizeof area, machine, PLIRUZZA_MACHINE, session, length,
                                               (uint32_t)(end - now), output, sizeof output, result, sizeof result);
         printf("hour %d reply %u", slice, (unsigned)reply);
         if (reply != 0) {
@@ -139,24 +140,27 @@ static const uint8_t stretch[] = {
 
 /* What a run is lent. */
 struct lent {
-    uint8_t image[PLIRUZZA_IMAGE], machine[PLIRUZZA_MACHINE], output[8], log[4 * PLIRUZZA_ROW], result[PLIRUZZA_LEAPING];
+    uint8_t image[PLIRUZZA_IMAGE], area[PLIRUZZA_AREA], machine[PLIRUZZA_MACHINE];
+    uint8_t output[8], log[4 * PLIRUZZA_ROW], result[PLIRUZZA_LEAPING];
 };
 
 static void lend(struct lent *l, const uint8_t *machine) {
     memset(l, 0, sizeof *l);
     memcpy(l->image, image, sizeof image);
+    memcpy(l->area, area, sizeof area);
     memcpy(l->machine, machine, PLIRUZZA_MACHINE);
     memset(l->log, 0xEE, sizeof l->log);
 }
 
 static uint32_t run_leaping(struct lent *l, const uint8_t *session, size_t length, uint32_t n, size_t sent) {
-    return pliruzza_run_leaping(l->image, PLIRUZZA_IMAGE, l->machine, PLIRUZZA_MACHINE, session, length, n, l->output + sent,
-                                sizeof l->output - sent, l->result, PLIRUZZA_LEAPING);
+    return pliruzza_run_leaping(l->image, PLIRUZZA_IMAGE, l->area, PLIRUZZA_AREA, l->machine, PLIRUZZA_MACHINE, session, length, n,
+                                l->output + sent, sizeof l->output - sent, l->result, PLIRUZZA_LEAPING);
 }
 
 static const char *alike(const struct lent *a, const struct lent *b) {
-    return memcmp(a->image, b->image, PLIRUZZA_IMAGE) || memcmp(a->machine, b->machine, PLIRUZZA_MACHINE)
-                   || memcmp(a->output, b->output, sizeof a->output) || memcmp(a->log, b->log, sizeof a->log)
+    return memcmp(a->image, b->image, PLIRUZZA_IMAGE) || memcmp(a->area, b->area, PLIRUZZA_AREA)
+                   || memcmp(a->machine, b->machine, PLIRUZZA_MACHINE) || memcmp(a->output, b->output, sizeof a->output)
+                   || memcmp(a->log, b->log, sizeof a->log)
                ? "DIFFER"
                : "alike";
 }
@@ -169,8 +173,8 @@ static int compare_runs(const uint8_t *machine) {
     lend(&single, machine);
     lend(&leaping, machine);
     lend(&sliced, machine);
-    if (pliruzza_run_single(single.image, PLIRUZZA_IMAGE, single.machine, PLIRUZZA_MACHINE, stretch, sizeof stretch, STRETCH,
-                            single.output, sizeof single.output, single.result, PLIRUZZA_SINGLE) != 0)
+    if (pliruzza_run_single(single.image, PLIRUZZA_IMAGE, single.area, PLIRUZZA_AREA, single.machine, PLIRUZZA_MACHINE, stretch, sizeof stretch,
+                            STRETCH, single.output, sizeof single.output, single.result, PLIRUZZA_SINGLE) != 0)
         return 1;
     if (run_leaping(&leaping, stretch, sizeof stretch, STRETCH, 0) != 0) return 1;
     printf("single and leaping %s", alike(&single, &leaping));
@@ -198,8 +202,9 @@ static const uint8_t called[] = {
 };
 
 static uint32_t watch(struct lent *l, const uint8_t *session, size_t length, uint32_t n, uint32_t bits, uint32_t since, size_t row, size_t rows) {
-    uint32_t reply = pliruzza_watch_leaping(l->image, PLIRUZZA_IMAGE, l->machine, PLIRUZZA_MACHINE, session, length, n, bits, since, l->output,
-                                            sizeof l->output, l->log + row * PLIRUZZA_ROW, rows * PLIRUZZA_ROW, l->result, PLIRUZZA_LEAPING);
+    uint32_t reply = pliruzza_watch_leaping(l->image, PLIRUZZA_IMAGE, l->area, PLIRUZZA_AREA, l->machine, PLIRUZZA_MACHINE, session, length, n, bits,
+                                            since, l->output, sizeof l->output, l->log + row * PLIRUZZA_ROW, rows * PLIRUZZA_ROW, l->result,
+                                            PLIRUZZA_LEAPING);
     printf("watched: %u", (unsigned)reply);
     show("cycles", l->result + PLIRUZZA_AT_CYCLES, 4);
     show("entries", l->result + PLIRUZZA_AT_ENTRIES, 4);
@@ -223,8 +228,9 @@ static int show_wakes(const uint8_t *machine) {
         show_bytes("behind", row + PLIRUZZA_ROW_BEHIND, 1);
         printf("\n");
     }
-    if (pliruzza_watch_single(single.image, PLIRUZZA_IMAGE, single.machine, PLIRUZZA_MACHINE, called, sizeof called, STRETCH, PLIRUZZA_WATCH_LOG, 0,
-                              single.output, sizeof single.output, single.log, sizeof single.log, single.result, PLIRUZZA_SINGLE) != 0)
+    if (pliruzza_watch_single(single.image, PLIRUZZA_IMAGE, single.area, PLIRUZZA_AREA, single.machine, PLIRUZZA_MACHINE, called, sizeof called, STRETCH,
+                              PLIRUZZA_WATCH_LOG, 0, single.output, sizeof single.output, single.log, sizeof single.log, single.result,
+                              PLIRUZZA_SINGLE) != 0)
         return 1;
     printf("single and leaping %s, the fourth row %s\n", alike(&single, &whole), as_it_was(whole.log + 3 * PLIRUZZA_ROW, PLIRUZZA_ROW));
     if (watch(&cut, called, sizeof called, STRETCH, PLIRUZZA_WATCH_LOG, 0, 0, 1) != 11) return 1;
@@ -242,6 +248,27 @@ static int show_wakes(const uint8_t *machine) {
     return 0;
 }
 
+/* The RAM goes away and comes back, with R at $C0 and $5A in the area's first byte. CLR $0014 (6 cycles) clears bit 6; LDAA $80 (3) then reads the area,
+ * STAA $BF (3) goes there, and STAA $C0 (3) nowhere, as R is not above it. LDAA #$40 (2) and STAA $14 (3) set the bit, and STAA $C0 (3) goes to the RAM,
+ * whatever R is. That is 7 instructions and 23 cycles; BRA to itself would follow. Of $80, $BF and $C0 the RAM has its count of bytes, 00 and 40, the area
+ * 5A, 5A and 00. */
+static int show_area(const uint8_t *machine) {
+    static struct lent l;
+    lend(&l, machine);
+    memcpy(l.image + 0xE000, "\x7F\x00\x14\x96\x80\x97\xBF\x97\xC0\x86\x40\x97\x14\x97\xC0\x20\xFE", 17);
+    memcpy(l.image + 0xFFFE, "\xE0\x00", 2);
+    l.area[0] = 0x5A;
+    if (pliruzza_power_on(l.image, PLIRUZZA_IMAGE, 0xC0, l.machine, PLIRUZZA_MACHINE) != 0) return 1;
+    printf("area: %u", (unsigned)run_leaping(&l, stretch, 0, 23, 0));
+    show("cycles", l.result + PLIRUZZA_AT_CYCLES, 4);
+    show("instr", l.result + PLIRUZZA_AT_INSTRUCTIONS, 4);
+    const uint8_t ram[] = {l.image[0x80], l.image[0xBF], l.image[0xC0]}, external[] = {l.area[0x00], l.area[0x3F], l.area[0x40]};
+    show_bytes("RAM", ram, sizeof ram);
+    show_bytes("area", external, sizeof external);
+    printf("\n");
+    return 0;
+}
+
 /* The rest with one thing wrong: its buffer stays as it was, and so does the result but for 4 to 7. */
 static void refuse_rest(size_t length, size_t used, size_t rest_length, size_t told_length) {
     uint8_t rest[sizeof stretch], told[PLIRUZZA_REST];
@@ -253,10 +280,10 @@ static void refuse_rest(size_t length, size_t used, size_t rest_length, size_t t
     else printf(" record %u\n", (unsigned)number_at(told, 8));
 }
 
-/* Leaping runs with one thing wrong each: what is lent stays as it was, but for the result of 1 to 7. */
+/* Leaping runs with one thing wrong each, or more, of which the first is told: what is lent stays as it was, but for the result of 1 to 7 and 12. */
 struct wrong {
     const char *what;
-    size_t image, machine;
+    size_t image, area, machine;
     int byte; /* of the saved machine, -1: none */
     uint8_t value;
     const char *session;
@@ -266,22 +293,24 @@ struct wrong {
 };
 
 static const struct wrong wrongs[] = {
-    {"short result", 65536, 42, -1, 0, "", 0, 100, 43},
-    {"short machine", 65536, 41, -1, 0, "", 0, 100, 44},
-    {"version 2", 65536, 42, 0, 2, "", 0, 100, 44},
-    {"waiting 2", 65536, 42, 11, 2, "", 0, 100, 44},
-    {"short image", 65535, 42, -1, 0, "", 0, 100, 44},
-    {"short image, pins 32", 65535, 42, 19, 32, "", 0, 100, 44},
-    {"pins 32", 65536, 42, 19, 32, "", 0, 100, 44},
-    {"N 1000000001", 65536, 42, -1, 0, "", 0, 1000000001, 44},
-    {"cut short", 65536, 42, -1, 0, "\6\0\4\0\0\0\0\0\6\0", 10, 100, 44},
-    {"kind 9", 65536, 42, -1, 0, "\6\0\11\0\0\0\0\0", 8, 100, 44},
-    {"pins 32 to come", 65536, 42, -1, 0, "\7\0\2\0\0\0\0\0\40", 9, 100, 44},
-    {"time 1, then 0", 65536, 42, -1, 0, "\6\0\4\0\1\0\0\0\6\0\4\0\0\0\0\0", 16, 100, 44},
+    {"short result", 65536, 128, 42, -1, 0, "", 0, 100, 43},
+    {"short machine", 65536, 128, 41, -1, 0, "", 0, 100, 44},
+    {"version 2", 65536, 128, 42, 0, 2, "", 0, 100, 44},
+    {"waiting 2", 65536, 128, 42, 11, 2, "", 0, 100, 44},
+    {"short image", 65535, 128, 42, -1, 0, "", 0, 100, 44},
+    {"short image and area, pins 32", 65535, 127, 42, 19, 32, "", 0, 100, 44},
+    {"short area", 65536, 127, 42, -1, 0, "", 0, 100, 44},
+    {"short area, pins 32", 65536, 127, 42, 19, 32, "", 0, 100, 44},
+    {"pins 32", 65536, 128, 42, 19, 32, "", 0, 100, 44},
+    {"N 1000000001", 65536, 128, 42, -1, 0, "", 0, 1000000001, 44},
+    {"cut short", 65536, 128, 42, -1, 0, "\6\0\4\0\0\0\0\0\6\0", 10, 100, 44},
+    {"kind 9", 65536, 128, 42, -1, 0, "\6\0\11\0\0\0\0\0", 8, 100, 44},
+    {"pins 32 to come", 65536, 128, 42, -1, 0, "\7\0\2\0\0\0\0\0\40", 9, 100, 44},
+    {"time 1, then 0", 65536, 128, 42, -1, 0, "\6\0\4\0\1\0\0\0\6\0\4\0\0\0\0\0", 16, 100, 44},
 };
 
 static void refuse(const struct wrong *w) {
-    static uint8_t image_before[PLIRUZZA_IMAGE];
+    static uint8_t image_before[PLIRUZZA_IMAGE], area_before[PLIRUZZA_AREA];
     uint8_t machine[PLIRUZZA_MACHINE], machine_before[PLIRUZZA_MACHINE];
     uint8_t output[4] = {1, 2, 3, 4}, result[PLIRUZZA_LEAPING];
     memset(result, 0xEE, sizeof result);
@@ -292,10 +321,11 @@ static void refuse(const struct wrong *w) {
     if (w->byte >= 0) machine[w->byte] = w->value;
     memcpy(machine_before, machine, sizeof machine);
     memcpy(image_before, image, sizeof image);
-    uint32_t reply = pliruzza_run_leaping(image, w->image, machine, w->machine, (const uint8_t *)w->session, w->length, w->n,
+    memcpy(area_before, area, sizeof area);
+    uint32_t reply = pliruzza_run_leaping(image, w->image, area, w->area, machine, w->machine, (const uint8_t *)w->session, w->length, w->n,
                                           output, sizeof output, result, w->result);
-    int kept = !memcmp(image, image_before, sizeof image) && !memcmp(machine, machine_before, sizeof machine)
-               && !memcmp(output, "\1\2\3\4", 4);
+    int kept = !memcmp(image, image_before, sizeof image) && !memcmp(area, area_before, sizeof area)
+               && !memcmp(machine, machine_before, sizeof machine) && !memcmp(output, "\1\2\3\4", 4);
     printf("%s: %u%s", w->what, (unsigned)reply, kept ? "" : " CHANGED");
     if (untouched(result, sizeof result)) printf(" nothing written\n");
     else printf(" record %llu\n", (unsigned long long)number_at(result + PLIRUZZA_AT_RECORD, 8));
@@ -326,6 +356,7 @@ int main(void) {
     if (run_night(machine)) return 1;
     if (compare_runs(machine)) return 1;
     if (show_wakes(machine)) return 1;
+    if (show_area(machine)) return 1;
     for (size_t i = 0; i < sizeof wrongs / sizeof wrongs[0]; i++) refuse(&wrongs[i]);
     refuse_rest(sizeof stretch, 1, sizeof stretch, 7);
     refuse_rest(18, 1, sizeof stretch, 8);

@@ -6,6 +6,11 @@
  * A buffer is passed as a pointer and a length in bytes. What the caller owes, and nothing can test: the bytes are there (to be written where the
  * pointer is not const), two buffers of one call do not overlap, and no pointer is null, also where the length is 0.
  *
+ * The area is the external memory at $80 to $FF, byte k for address $80 + k. It shows there while bit 6 of $14 (RAME) is clear: a read gives its byte, a
+ * write goes to it where the address is below R and else nowhere, and the RAM, which is the image's $80 to $FF, keeps what it held. While the bit is set, as
+ * power-on and reset leave it, the RAM shows there, writable whatever R is, and the area is neither read nor written. The area is the caller's, as the image
+ * is: every run is lent it, and it is never part of the saved machine. So keep it between runs, beside image and machine; at first zeros are customary.
+ *
  * Numbers returned:
  *    0  done; of a run: the cycle limit N is reached
  *    1  the image is not 65,536 bytes
@@ -18,6 +23,7 @@
  *    8  the opcode is undefined
  *    9  a byte is to be sent and the output has no room
  *   11  an interrupt is to be entered and the log has no room for its row
+ *   12  the area is not 128 bytes
  *   26  the saved machine is not 42 bytes
  *   27  the saved machine's version is not 1
  *   28  the saved machine's bytes stand for no machine
@@ -25,8 +31,8 @@
  *   30  the session has fewer records than were used
  *   31  the buffer for the rest of a session is too short
  *   36  a bit of `watch` is set that asks for nothing
- * They are tested in this order: 36, 29, 26, 27, 28, 1, 2, 3, then the session from the front (4 to 7), 30, 31; at each step of a run 0, 9, 11, 8. A call that
- * returns 26 or above writes nothing.
+ * They are tested in this order: 36, 29, 26, 27, 28, 1, 12, 2, 3, then the session from the front (4 to 7), 30, 31; at each step of a run 0, 9, 11, 8. A
+ * call that returns 26 or above writes nothing.
  */
 #ifndef PLIRUZZA_H
 #define PLIRUZZA_H
@@ -40,6 +46,7 @@ extern "C" {
 
 enum {
     PLIRUZZA_IMAGE = 65536,   /* bytes of an image: the whole address space */
+    PLIRUZZA_AREA = 128,      /* bytes of the area: $80 to $FF */
     PLIRUZZA_MACHINE = 42,    /* bytes of a saved machine (docs/FORMATS.md) */
     PLIRUZZA_REST = 8         /* bytes of the result of the rest of a session */
 };
@@ -78,10 +85,10 @@ enum {
  * Returns 26, 1 or 2, and leaves `machine` as it was; else 0. */
 uint32_t pliruzza_power_on(const uint8_t *image, size_t image_length, uint32_t r, uint8_t *machine, size_t machine_length);
 
-/* The single run: the saved machine runs on the image, with the session's records at their times, until N cycles are reached (0), an undefined
- * opcode is met (8) or a byte is to be sent and the output has no room (9). Then the machine is saved where it was, image and output are as the run left
- * them, and the result tells the counts. The output's first `bytes sent` bytes are what was sent; those after them are unchanged.
- * On 1 to 7 image, machine and output are unchanged, and the result tells the reply, zero counts and, for 4 to 7, the bad record.
+/* The single run: the saved machine runs on image and area, with the session's records at their times, until N cycles are reached (0), an undefined
+ * opcode is met (8) or a byte is to be sent and the output has no room (9). Then the machine is saved where it was, image, area and output are as the run
+ * left them, and the result tells the counts. The output's first `bytes sent` bytes are what was sent; those after them are unchanged.
+ * On 1 to 7 and 12 image, area, machine and output are unchanged, and the result tells the reply, zero counts and, for 4 to 7, the bad record.
  *
  * The result, little-endian; bytes after it are unchanged:
  *    0  the number returned (4)
@@ -92,17 +99,19 @@ uint32_t pliruzza_power_on(const uint8_t *image, size_t image_length, uint32_t r
  *   24  bytes sent (8)
  *   32  for 4 to 7 the number of the bad record, counted from 0; else 0 (8)
  */
-uint32_t pliruzza_run_single(uint8_t *image, size_t image_length, uint8_t *machine, size_t machine_length, const uint8_t *session, size_t session_length,
-                             uint32_t n, uint8_t *output, size_t output_length, uint8_t *result, size_t result_length);
+uint32_t pliruzza_run_single(uint8_t *image, size_t image_length, uint8_t *area, size_t area_length, uint8_t *machine, size_t machine_length,
+                             const uint8_t *session, size_t session_length, uint32_t n, uint8_t *output, size_t output_length, uint8_t *result,
+                             size_t result_length);
 
 /* The leaping run: proved to leave the same in every byte, and a long wait is passed in leaps. Its result tells one count more:
  *   40  leaps (4)
  */
-uint32_t pliruzza_run_leaping(uint8_t *image, size_t image_length, uint8_t *machine, size_t machine_length, const uint8_t *session, size_t session_length,
-                              uint32_t n, uint8_t *output, size_t output_length, uint8_t *result, size_t result_length);
+uint32_t pliruzza_run_leaping(uint8_t *image, size_t image_length, uint8_t *area, size_t area_length, uint8_t *machine, size_t machine_length,
+                              const uint8_t *session, size_t session_length, uint32_t n, uint8_t *output, size_t output_length, uint8_t *result,
+                              size_t result_length);
 
-/* The watched pair: the same runs, that tell besides what the bits of `watch` ask for. Of the number returned, image, machine, output and result all is said
- * above; with no bit set these are the two runs, and `log` is neither tested nor touched.
+/* The watched pair: the same runs, that tell besides what the bits of `watch` ask for. Of the number returned, image, area, machine, output and result all
+ * is said above; with no bit set these are the two runs, and `log` is neither tested nor touched.
  *
  * PLIRUZZA_WATCH_LOG: what woke the machine. Each interrupt entry writes a row to the log, so that there are as many rows as the result tells entries; bytes
  * after them are unchanged. The log may have any length; room is its length / 8 rows. An entry without room for its row stops the run with 11 before anything
@@ -117,12 +126,12 @@ uint32_t pliruzza_run_leaping(uint8_t *image, size_t image_length, uint8_t *mach
  *    5  the causes that waited behind it, bit k for cause k; with I set none but NMI is a cause (1)
  *    6  0 (2)
  */
-uint32_t pliruzza_watch_single(uint8_t *image, size_t image_length, uint8_t *machine, size_t machine_length, const uint8_t *session, size_t session_length,
-                               uint32_t n, uint32_t watch, uint32_t since, uint8_t *output, size_t output_length, uint8_t *log, size_t log_length,
-                               uint8_t *result, size_t result_length);
-uint32_t pliruzza_watch_leaping(uint8_t *image, size_t image_length, uint8_t *machine, size_t machine_length, const uint8_t *session, size_t session_length,
-                                uint32_t n, uint32_t watch, uint32_t since, uint8_t *output, size_t output_length, uint8_t *log, size_t log_length,
-                                uint8_t *result, size_t result_length);
+uint32_t pliruzza_watch_single(uint8_t *image, size_t image_length, uint8_t *area, size_t area_length, uint8_t *machine, size_t machine_length,
+                               const uint8_t *session, size_t session_length, uint32_t n, uint32_t watch, uint32_t since, uint8_t *output,
+                               size_t output_length, uint8_t *log, size_t log_length, uint8_t *result, size_t result_length);
+uint32_t pliruzza_watch_leaping(uint8_t *image, size_t image_length, uint8_t *area, size_t area_length, uint8_t *machine, size_t machine_length,
+                                const uint8_t *session, size_t session_length, uint32_t n, uint32_t watch, uint32_t since, uint8_t *output,
+                                size_t output_length, uint8_t *log, size_t log_length, uint8_t *result, size_t result_length);
 
 /* The rest of a session after a run that used its first `used` records in `cycles` cycles: the records after them, their times less the cycles, or 0 where
  * that would be below 0. It is what the next slice is lent. The rest goes to the front of `rest`; it is never longer than the session.

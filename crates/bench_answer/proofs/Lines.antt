@@ -101,7 +101,7 @@ power-other image session n power.WrongImage e = refused-other 1 none (omega ari
 power-other image session n power.WrongStart e = refused-other 2 none (omega arith) e
 power-other image session n (power.On m) e =
     let given = lent image (replicate 128 0) (replicate 256 0) in
-    text-other (answerOf (terms session n) m given) (refusal-most (terms session n) m given (length-replicate 128 0)) e
+    text-other (answerOf (terms session n) m given) (refusal-most (terms session n) m given (length-replicate {A = ℕ} 128 0)) e
 
 input-other : (input : List ℕ) (n r start : ℕ) → IsTen (inputText input (toldInput (Run n r start))) → ⊥
 unfolding inputText

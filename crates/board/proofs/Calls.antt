@@ -2,13 +2,14 @@
 use Prim.Native.Nat.{ℕ, _≤_, _<_}
 use native.Mathlib.Omega.{arith}
 use mathlib.Core.Bool.{Bool, true, false}
-use mathlib.Core.List.{List, [], _∷_}
+use mathlib.Core.List.{List, []}
 use mathlib.Core.Option.{none}
 use mathlib.Core.Path.{_≡_, refl, sym, ap, _∙_}
 use lib.Dec.{ltb}
 use lib.ListN.{length}
 use borrow.Author.Tests.{eq-eqb, lt-ltb, le-ltb}
 use Rattle.laws.proofs.Conds.{picks, passes}
+use Rattle.laws.proofs.Lists.{no-bytes}
 use Rattle.numbers.specs.Numbers.{over}
 use Rattle.replies.specs.Replies.{told, toldReply}
 use Rattle.machine.specs.declared.Machine.{Machine}
@@ -39,7 +40,7 @@ module _ (leaping : Bool) (t : Terms) (b : Buffers) where
       sym (passes _ _ (ap (ltb (length (b .result))) (sym s) ∙ le-ltb _ _ h) ∙ ap (onLoad leaping t b) (sym e ∙ ap toldLoaded f))
 
   -- a machine outside its ranges
-  pub refused-2 : {k : ℕ} {r : List ℕ} → k ≡ unfitReply (b .lent .image) → r ≡ over (recordBytes leaping (told k none) noCounts 0) (b .result)
+  pub refused-2 : {k : ℕ} {r : List ℕ} → k ≡ unfitReply (b .lent .image) (b .lent .area) → r ≡ over (recordBytes leaping (told k none) noCounts 0) (b .result)
       → called k (buffers (b .machine) (b .lent) r) ≡ refusedCall leaping b 2
   refused-2 {k} e f =
       ap (λ (r : List ℕ). called k (buffers (b .machine) (b .lent) r)) f
@@ -67,17 +68,13 @@ module _ (leaping : Bool) (t : Terms) (b : Buffers) where
       ∙ ap (λ (x : Answer). told-of x (p .leaps .0)) (a .0)
       ∙ ap (told-of (answerOf t m (b .lent))) (a .1)
 
-no-bytes : (l : List ℕ) → length l ≡ 0 → l ≡ []
-no-bytes [] e = refl
-no-bytes (x ∷ l) e = absurd (let z : ⊥ = omega arith in z)
-
 module _ (leaping : Bool) (session : List ℕ) (n : ℕ) (b : Buffers) where
   -- nothing is watched, and there is no log
-  pub plain-left : {watch : Watch} {k : ℕ} {machine image output log result : List ℕ} → watch ≡ unwatched → length log ≡ 0
-      → called k (buffers machine (lending image output log) result) ≡ runCall leaping (watching session n watch) b
-      → called k (buffers machine (lent image output) result) ≡ runCall leaping (terms session n) b
-  plain-left {watch} {k} {machine} {image} {output} {log} {result} u h e =
-      ap (λ (l : List ℕ). called k (buffers machine (lending image output l) result)) (sym (no-bytes log h))
+  pub plain-left : {watch : Watch} {k : ℕ} {machine image area output log result : List ℕ} → watch ≡ unwatched → length log ≡ 0
+      → called k (buffers machine (lending image area output log) result) ≡ runCall leaping (watching session n watch) b
+      → called k (buffers machine (lent image area output) result) ≡ runCall leaping (terms session n) b
+  plain-left {watch} {k} {machine} {image} {area} {output} {log} {result} u h e =
+      ap (λ (l : List ℕ). called k (buffers machine (lending image area output l) result)) (sym (no-bytes log h))
       ∙ e
       ∙ ap (λ (w : Watch). runCall leaping (watching session n w) b) u
 

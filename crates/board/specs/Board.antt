@@ -1,5 +1,5 @@
 -- What each C run leaves, for all inputs: the number that it returns, and every byte of what it is lent to write.
--- Beside 01's replies: 26 a saved machine that is not 42 bytes, 27 its version is another, 28 its bytes stand for no machine (crates/saved);
+-- Beside 01's replies and 02's: 26 a saved machine that is not 42 bytes, 27 its version is another, 28 its bytes stand for no machine (crates/saved);
 -- 29 a buffer for a record is too short; 36 a watched run is asked for what there is not. A call that returns 26 or above writes nothing.
 -- The other C calls: crates/board_calls.
 use Prim.Native.Nat.{ℕ}
@@ -59,13 +59,13 @@ ranCall leaping t b m =
 
 -- a refusal to load: 2 is refused as a run refuses it; any other writes nothing
 abbrev pub refusedCall : Bool → Buffers → ℕ → Called
-refusedCall leaping b k = cond (eqb k 2) (reported leaping (told (unfitReply (b .lent .image)) none) noCounts 0 b) (called k b)
+refusedCall leaping b k = cond (eqb k 2) (reported leaping (told (unfitReply (b .lent .image) (b .lent .area)) none) noCounts 0 b) (called k b)
 
 abbrev pub onLoad : Bool → Terms → Buffers → Given Machine → Called
 onLoad leaping t b (gives m) = ranCall leaping t b m
 onLoad leaping t b (replies k) = refusedCall leaping b k
 
--- a run: 29; then 26, 27, 28; then 01's replies in 01's order
+-- a run: 29; then 26, 27, 28; then a run's replies in their own order
 unfoldable pub runCall : Bool → Terms → Buffers → Called
 runCall leaping t b =
     cond (ltb (length (b .result)) (recordSize leaping)) (called 29 b) (onLoad leaping t b (loadOf (b .machine)))

@@ -65,6 +65,7 @@ fn counted(ran: Ran) -> Counted
 fn run_call(
     leaping: bool,
     image: &mut [u8],
+    area: &mut [u8],
     machine: &mut [u8],
     session: &[u8],
     n: u32,
@@ -73,9 +74,10 @@ fn run_call(
     log: &mut [u8],
     result: &mut [u8],
 ) -> u32
-    ensures { λ k. ⌜ called k (buffers (now (machine .exit)) (lending (now (image .exit)) (now (output .exit)) (now (log .exit))) (now (result .exit)))
+    ensures { λ k. ⌜ called k
+        (buffers (now (machine .exit)) (lending (now (image .exit)) (now (area .exit)) (now (output .exit)) (now (log .exit))) (now (result .exit)))
         ≡ runCall leaping (watching (now (session .entry)) n watch)
-        (buffers (now (machine .entry)) (lending (now (image .entry)) (now (output .entry)) (now (log .entry))) (now (result .entry))) ⌝ }
+        (buffers (now (machine .entry)) (lending (now (image .entry)) (now (area .entry)) (now (output .entry)) (now (log .entry))) (now (result .entry))) ⌝ }
 {
     let size = board_results::record_size(leaping);
     if result.len() < size {
@@ -84,11 +86,11 @@ fn run_call(
     let loaded = saved::load(&machine[..]);
     match loaded {
         Loaded::Ready(m) => {
-            let leapt = cabinet::watch_either(leaping, image, m, session, n, watch, output, log);
-            let ran = leapt.ran;
+            let e = cabinet::watch_either(leaping, image, area, m, session, n, watch, output, log);
+            let ran = e.ran;
             let reply = ran.reply;
             let left = ran.machine;
-            let leaps = leapt.leaps;
+            let leaps = e.leaps;
             saved::save(left, machine);
             let counted = counted(ran);
             board_results::report(leaping, reply, counted, leaps, result)
@@ -97,7 +99,7 @@ fn run_call(
         Loaded::WrongVersion => 27,
         Loaded::NoMachine => 28,
         Loaded::WrongMachine => {
-            let number = board_results::unfit(&image[..]);
+            let number = board_results::unfit(&image[..], &area[..]);
             board_results::refuse(leaping, number, result);
             number
         }
@@ -108,20 +110,22 @@ fn run_call(
 fn plain_call(
     leaping: bool,
     image: &mut [u8],
+    area: &mut [u8],
     machine: &mut [u8],
     session: &[u8],
     n: u32,
     output: &mut [u8],
     result: &mut [u8],
 ) -> u32
-    ensures { λ k. ⌜ called k (buffers (now (machine .exit)) (lent (now (image .exit)) (now (output .exit))) (now (result .exit)))
+    ensures { λ k. ⌜ called k (buffers (now (machine .exit)) (lent (now (image .exit)) (now (area .exit)) (now (output .exit))) (now (result .exit)))
         ≡ runCall leaping (terms (now (session .entry)) n)
-        (buffers (now (machine .entry)) (lent (now (image .entry)) (now (output .entry))) (now (result .entry))) ⌝ }
+        (buffers (now (machine .entry)) (lent (now (image .entry)) (now (area .entry)) (now (output .entry))) (now (result .entry))) ⌝ }
 {
     let mut none = [0u8; 1];
     run_call(
         leaping,
         image,
+        area,
         machine,
         session,
         n,
@@ -136,6 +140,7 @@ fn plain_call(
 fn watch_call(
     leaping: bool,
     image: &mut [u8],
+    area: &mut [u8],
     machine: &mut [u8],
     session: &[u8],
     n: u32,
@@ -145,9 +150,10 @@ fn watch_call(
     log: &mut [u8],
     result: &mut [u8],
 ) -> u32
-    ensures { λ k. ⌜ called k (buffers (now (machine .exit)) (lending (now (image .exit)) (now (output .exit)) (now (log .exit))) (now (result .exit)))
+    ensures { λ k. ⌜ called k
+        (buffers (now (machine .exit)) (lending (now (image .exit)) (now (area .exit)) (now (output .exit)) (now (log .exit))) (now (result .exit)))
         ≡ watchCall leaping (now (session .entry)) n bits since
-        (buffers (now (machine .entry)) (lending (now (image .entry)) (now (output .entry)) (now (log .entry))) (now (result .entry))) ⌝ }
+        (buffers (now (machine .entry)) (lending (now (image .entry)) (now (area .entry)) (now (output .entry)) (now (log .entry))) (now (result .entry))) ⌝ }
 {
     if board_numbers::unknown_bits(bits) {
         return 36;
@@ -159,6 +165,7 @@ fn watch_call(
     run_call(
         leaping,
         image,
+        area,
         machine,
         session,
         n,
@@ -173,40 +180,43 @@ fn watch_call(
 #[no_mangle]
 pub extern "C" fn pliruzza_run_single(
     image: &mut [u8],
+    area: &mut [u8],
     machine: &mut [u8],
     session: &[u8],
     n: u32,
     output: &mut [u8],
     result: &mut [u8],
 ) -> u32
-    ensures { λ k. ⌜ called k (buffers (now (machine .exit)) (lent (now (image .exit)) (now (output .exit))) (now (result .exit)))
+    ensures { λ k. ⌜ called k (buffers (now (machine .exit)) (lent (now (image .exit)) (now (area .exit)) (now (output .exit))) (now (result .exit)))
         ≡ singleCall (terms (now (session .entry)) n)
-        (buffers (now (machine .entry)) (lent (now (image .entry)) (now (output .entry))) (now (result .entry))) ⌝ }
+        (buffers (now (machine .entry)) (lent (now (image .entry)) (now (area .entry)) (now (output .entry))) (now (result .entry))) ⌝ }
 {
-    plain_call(false, image, machine, session, n, output, result)
+    plain_call(false, image, area, machine, session, n, output, result)
 }
 
 // The leaping run.
 #[no_mangle]
 pub extern "C" fn pliruzza_run_leaping(
     image: &mut [u8],
+    area: &mut [u8],
     machine: &mut [u8],
     session: &[u8],
     n: u32,
     output: &mut [u8],
     result: &mut [u8],
 ) -> u32
-    ensures { λ k. ⌜ called k (buffers (now (machine .exit)) (lent (now (image .exit)) (now (output .exit))) (now (result .exit)))
+    ensures { λ k. ⌜ called k (buffers (now (machine .exit)) (lent (now (image .exit)) (now (area .exit)) (now (output .exit))) (now (result .exit)))
         ≡ leapingCall (terms (now (session .entry)) n)
-        (buffers (now (machine .entry)) (lent (now (image .entry)) (now (output .entry))) (now (result .entry))) ⌝ }
+        (buffers (now (machine .entry)) (lent (now (image .entry)) (now (area .entry)) (now (output .entry))) (now (result .entry))) ⌝ }
 {
-    plain_call(true, image, machine, session, n, output, result)
+    plain_call(true, image, area, machine, session, n, output, result)
 }
 
 // The single run, watched.
 #[no_mangle]
 pub extern "C" fn pliruzza_watch_single(
     image: &mut [u8],
+    area: &mut [u8],
     machine: &mut [u8],
     session: &[u8],
     n: u32,
@@ -216,13 +226,15 @@ pub extern "C" fn pliruzza_watch_single(
     log: &mut [u8],
     result: &mut [u8],
 ) -> u32
-    ensures { λ k. ⌜ called k (buffers (now (machine .exit)) (lending (now (image .exit)) (now (output .exit)) (now (log .exit))) (now (result .exit)))
+    ensures { λ k. ⌜ called k
+        (buffers (now (machine .exit)) (lending (now (image .exit)) (now (area .exit)) (now (output .exit)) (now (log .exit))) (now (result .exit)))
         ≡ watchCall false (now (session .entry)) n watch since
-        (buffers (now (machine .entry)) (lending (now (image .entry)) (now (output .entry)) (now (log .entry))) (now (result .entry))) ⌝ }
+        (buffers (now (machine .entry)) (lending (now (image .entry)) (now (area .entry)) (now (output .entry)) (now (log .entry))) (now (result .entry))) ⌝ }
 {
     watch_call(
         false,
         image,
+        area,
         machine,
         session,
         n,
@@ -238,6 +250,7 @@ pub extern "C" fn pliruzza_watch_single(
 #[no_mangle]
 pub extern "C" fn pliruzza_watch_leaping(
     image: &mut [u8],
+    area: &mut [u8],
     machine: &mut [u8],
     session: &[u8],
     n: u32,
@@ -247,13 +260,15 @@ pub extern "C" fn pliruzza_watch_leaping(
     log: &mut [u8],
     result: &mut [u8],
 ) -> u32
-    ensures { λ k. ⌜ called k (buffers (now (machine .exit)) (lending (now (image .exit)) (now (output .exit)) (now (log .exit))) (now (result .exit)))
+    ensures { λ k. ⌜ called k
+        (buffers (now (machine .exit)) (lending (now (image .exit)) (now (area .exit)) (now (output .exit)) (now (log .exit))) (now (result .exit)))
         ≡ watchCall true (now (session .entry)) n watch since
-        (buffers (now (machine .entry)) (lending (now (image .entry)) (now (output .entry)) (now (log .entry))) (now (result .entry))) ⌝ }
+        (buffers (now (machine .entry)) (lending (now (image .entry)) (now (area .entry)) (now (output .entry)) (now (log .entry))) (now (result .entry))) ⌝ }
 {
     watch_call(
         true,
         image,
+        area,
         machine,
         session,
         n,

@@ -1,6 +1,6 @@
 -- The result record of a run: its reply and its counts as bytes, as board/pliruzza.h lays them out.
 use Prim.Native.Nat.{ℕ}
-use mathlib.Core.Bool.{Bool, cond}
+use mathlib.Core.Bool.{Bool, not, cond}
 use mathlib.Core.List.{List, _++_}
 use mathlib.Core.Option.{Option·getD}
 use lib.Dec.{eqb}
@@ -24,7 +24,7 @@ counts cycles instructions entries used sent =
 abbrev pub toldCounts : Counted → Counts
 toldCounts c = counts (c .cycles .0) (c .instructions .0) (c .entries .0) (c .used .0) (c .sent .0)
 
--- "Replies 1 to 7 have all counts zero"
+-- "Replies 1 to 7 have all counts zero", and 12 leaves "what 1 leaves"
 abbrev pub noCounts : Counts
 noCounts = counts 0 0 0 0 0
 
@@ -52,6 +52,6 @@ withLeaps leaping leaps bytes = cond leaping (bytes ++ littleEndian 4 leaps) byt
 abbrev pub recordBytes : Bool → Told → Counts → ℕ → List ℕ
 recordBytes leaping t c leaps = withLeaps leaping leaps (singleBytes t c)
 
--- a machine outside its ranges: 2, and "1, 2, 3 are tested in that order"
-abbrev pub unfitReply : List ℕ → ℕ
-unfitReply image = cond (eqb (length image) 65536) 2 1
+-- a machine outside its ranges: 2, and "1, 2, 3 are tested in that order", 12 "straight after 1"
+abbrev pub unfitReply : List ℕ → List ℕ → ℕ
+unfitReply image area = cond (not (eqb (length image) 65536)) 1 (cond (not (eqb (length area) 128)) 12 2)

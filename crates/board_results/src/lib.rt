@@ -83,11 +83,17 @@ pub fn report(leaping: bool, reply: Reply, counted: Counted, leaps: Leaps, resul
     number
 }
 
-// The reply to a machine outside its ranges: the image is tested first.
-pub fn unfit(image: &[u8]) -> u32
-    ensures { λ r. ⌜ r ≡ unfitReply (now (image .entry)) ⌝ }
+// The reply to a machine outside its ranges: image and area are tested first.
+pub fn unfit(image: &[u8], area: &[u8]) -> u32
+    ensures { λ r. ⌜ r ≡ unfitReply (now (image .entry)) (now (area .entry)) ⌝ }
 {
-    if image.len() == 65536 { 2 } else { 1 }
+    if image.len() != 65536 {
+        return 1;
+    }
+    if area.len() != 128 {
+        return 12;
+    }
+    2
 }
 
 // The record of a refusal that names no record: all counts zero.

@@ -1,7 +1,7 @@
 -- Each way that a C run can end, as cases: its buffer too short, bytes that do not load, a machine outside its ranges, a run. Assumes nothing.
 use Prim.Native.Nat.{ℕ, _≤_, _<_}
 use native.Mathlib.Omega.{arith}
-use mathlib.Core.Bool.{Bool}
+use mathlib.Core.Bool.{Bool, not}
 use mathlib.Core.List.{List}
 use mathlib.Core.Option.{none}
 use mathlib.Core.Path.{_≡_, refl}
@@ -20,10 +20,11 @@ use Rattle.saved.proofs.Answers.{load-cases}
 use Rattle.board_results.specs.Results.{noCounts, recordSize, unfitReply}
 use Rattle.board.specs.Board.{Buffers, Called, called, reported, ranCall, onLoad, runCall}
 
--- a machine outside its ranges gets 1 or 2
-pub unfit-small : (image : List ℕ) → (1 ≤ unfitReply image) × (unfitReply image ≤ 2)
-unfit-small image =
-    cases (λ (k : ℕ). (1 ≤ k) × (k ≤ 2)) (eqb (length image) 65536) (λ _. (omega arith, omega arith)) (λ _. (omega arith, omega arith))
+-- a machine outside its ranges gets 1, 12 or 2
+pub unfit-most : (image area : List ℕ) → unfitReply image area ≤ 12
+unfit-most image area =
+    cases (λ (k : ℕ). k ≤ 12) (not (eqb (length image) 65536)) (λ _. omega arith)
+    (λ _. cases (λ (k : ℕ). k ≤ 12) (not (eqb (length area) 128)) (λ _. omega arith) (λ _. omega arith))
 
 module _ (leaping : Bool) (t : Terms) (b : Buffers) where
   abbrev pub Fits : Type 0
@@ -32,7 +33,7 @@ module _ (leaping : Bool) (t : Terms) (b : Buffers) where
   pub call-cases : (P : Called → Type 0)
       → (length (b .result) < recordSize leaping → P (called 29 b))
       → (Fits → (k : ℕ) → 26 ≤ k → k ≤ 28 → loadOf (b .machine) ≡ replies k → P (called k b))
-      → (Fits → loadOf (b .machine) ≡ replies 2 → P (reported leaping (told (unfitReply (b .lent .image)) none) noCounts 0 b))
+      → (Fits → loadOf (b .machine) ≡ replies 2 → P (reported leaping (told (unfitReply (b .lent .image) (b .lent .area)) none) noCounts 0 b))
       → (Fits → (m : Machine) → loadOf (b .machine) ≡ gives m → P (ranCall leaping t b m))
       → P (runCall leaping t b)
   unfolding runCall
@@ -55,5 +56,5 @@ module _ (leaping : Bool) (t : Terms) (b : Buffers) where
       call-cases (λ c. c .number ≤ 29)
       (λ _. omega arith)
       (λ _ k low high e. omega arith)
-      (λ _ e. let u = unfit-small (b .lent .image) .1 in omega arith)
+      (λ _ e. let u = unfit-most (b .lent .image) (b .lent .area) in omega arith)
       (λ _ m e. let u = reply-most t m (b .lent) in omega arith)

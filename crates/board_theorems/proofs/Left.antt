@@ -1,9 +1,9 @@
--- What power-on and the C runs leave: nothing written at 26 to 29, all but the record untouched at 1 to 7, a machine that the next call
--- loads, and two runs that agree. Assumes nothing.
+-- What power-on and the C runs leave: nothing written at 26 to 29, all but the record untouched at 1 to 7 and 12, a machine that the next
+-- call loads, and two runs that agree. Assumes nothing.
 use Prim.Native.Nat.{ℕ, _≤_}
 use native.Mathlib.Omega.{arith}
 use mathlib.Core.Bool.{Bool, true, false, cond}
-use mathlib.Core.List.{List, append-assoc}
+use mathlib.Core.List.{List, [], append-assoc}
 use mathlib.Core.Option.{none, Option·getD}
 use mathlib.Core.Path.{_≡_, refl, sym, ap, subst, _∙_}
 use lib.Dec.{eqb}
@@ -12,7 +12,7 @@ use lib.Seq.{take-at}
 use borrow.Author.Tests.{eq-eqb, le-ltb}
 use Rattle.laws.proofs.Conds.{picks, passes}
 use Rattle.numbers.specs.Numbers.{littleEndian, over}
-use Rattle.replies.specs.Replies.{Told, told}
+use Rattle.replies.specs.Replies.{Told, told, stops}
 use Rattle.bus.specs.Access.{memories}
 use Rattle.machine.specs.declared.Machine.{Machine}
 use Rattle.machine.specs.Machine.{cold, resetOf}
@@ -32,14 +32,14 @@ use Rattle.board_results.specs.Results.{Counts, noCounts, recordSize, recordByt
 use Rattle.board_results.proofs.Laws.{result-long}
 use Rattle.board_calls.specs.Calls.{wrote, onPower, powerCall}
 use Rattle.board.specs.Board.{Buffers, Called, called, countsOf, reported, onLoad, runCall, singleCall, leapingCall}
-use Rattle.board_theorems.proofs.Ends.{unfit-small, call-cases}
+use Rattle.board_theorems.proofs.Ends.{unfit-most, call-cases}
 
 -- power-on into 42 bytes, of a whole image and an R that fits: the saved machine is the one that reset makes, and a run loads it
 pub power-done : (image : List ℕ) (r : ℕ) (machine : List ℕ) → length machine ≡ 42 → length image ≡ 65536 → r ≤ 65536
-    → let m = resetOf (memories image) (cold r) in (powerCall image r machine ≡ wrote 0 (savedOf m)) × (loadOf (savedOf m) ≡ gives m)
+    → let m = resetOf (memories image []) (cold r) in (powerCall image r machine ≡ wrote 0 (savedOf m)) × (loadOf (savedOf m) ≡ gives m)
 unfolding powerCall
 power-done image r machine h l b =
-    let m = resetOf (memories image) (cold r) in
+    let m = resetOf (memories image []) (cold r) in
     let p = power-gives image r l b in
     (picks _ _ (eq-eqb _ _ h) ∙ ap (onPower machine) (p .0), save-then-load m (say-ranges (m .chip .bus) (p .1)))
 
@@ -53,7 +53,7 @@ module _ (leaping : Bool) (t : Terms) (b : Buffers) where
       call-cases leaping t b (λ c. 26 ≤ c .number → c .left ≡ b)
       (λ h p. refl)
       (λ h k low high e p. refl)
-      (λ h e p. let u = unfit-small (b .lent .image) .1 in absurd (let z : ⊥ = omega arith in z))
+      (λ h e p. let u = unfit-most (b .lent .image) (b .lent .area) in absurd (let z : ⊥ = omega arith in z))
       (λ h m e p. let u = reply-most t m (b .lent) in absurd (let z : ⊥ = omega arith in z))
 
   abbrev tells : Told → Counts → ℕ → List ℕ
@@ -63,7 +63,7 @@ module _ (leaping : Bool) (t : Terms) (b : Buffers) where
   told-zero reply {a} {z} {leaps} e h =
       ap (λ (x : Answer). tells reply (countsOf x) leaps) e ∙ ap (tells reply (countsOf z)) h
 
-  -- a refusal 1 to 7: image, machine, output and log are as they were, and the record tells zero counts
+  -- a refusal 1 to 7 or 12: image, area, machine, output and log are as they were, and the record tells zero counts
   pub record Refused (c : Called) : Type 0 where
     pub machine : c .left .machine ≡ b .machine
     pub lent : c .left .lent ≡ b .lent
@@ -71,14 +71,14 @@ module _ (leaping : Bool) (t : Terms) (b : Buffers) where
     pub number : reply .number ≡ c .number
     pub result : c .left .result ≡ tells reply noCounts 0
 
-  pub refused-left : Bytes (b .machine) → 1 ≤ call .number → call .number ≤ 7 → Refused call
+  pub refused-left : Bytes (b .machine) → stops (call .number) ≡ false → call .number ≤ 25 → Refused call
   refused-left bytes =
-      call-cases leaping t b (λ c. 1 ≤ c .number → c .number ≤ 7 → Refused c)
+      call-cases leaping t b (λ c. stops (c .number) ≡ false → c .number ≤ 25 → Refused c)
       (λ h p q. absurd (let z : ⊥ = omega arith in z))
       (λ h k low high e p q. absurd (let z : ⊥ = omega arith in z))
-      (λ h e p q. record { machine = refl; lent = refl; reply = told (unfitReply (b .lent .image)) none; number = refl; result = refl })
+      (λ h e p q. record { machine = refl; lent = refl; reply = told (unfitReply (b .lent .image) (b .lent .area)) none; number = refl; result = refl })
       (λ h m e p q.
-      let u = refused-untouched t m (b .lent) p q in
+      let u = refused-untouched t m (b .lent) p in
       let reply = answerOf t m (b .lent) .reply in
       record {
         machine = ap (λ (a : Answer). savedOf (a .machine)) (u .0) ∙ load-then-save (b .machine) m bytes e;
@@ -105,7 +105,7 @@ records-alike t c leaps buffer =
     let bytes = recordBytes false t c leaps in
     take-at bytes _ 40 h ∙ sym (ap (take 40) (append-assoc bytes (littleEndian 4 leaps) _) ∙ take-at bytes _ 40 h)
 
--- the same number, image, machine, output and log, and records that begin alike
+-- the same number, image, area, machine, output and log, and records that begin alike
 abbrev pub Agree : Called → Called → Type 0
 Agree s t =
     (s .number ≡ t .number)
@@ -117,7 +117,7 @@ Agree s t =
 abbrev refusedAs : Told → Bool → Buffers → Bool → ℕ → Called
 refusedAs u leaping b c k = cond c (reported leaping u noCounts 0 b) (called k b)
 
--- both runs return the same number and leave the same image, machine, output and log, and the same first 40 bytes of the result
+-- both runs return the same number and leave the same image, area, machine, output and log, and the same first 40 bytes of the result
 pub runs-agree : (t : Terms) (b : Buffers) → 44 ≤ length (b .result) → Agree (singleCall t b) (leapingCall t b)
 unfolding runCall
 runs-agree t b h =
@@ -133,4 +133,4 @@ runs-agree t b h =
     alike (gives m) =
         let a = answerOf t m (b .lent) in
         (refl, refl, refl, records-alike (a .reply) (countsOf a) (leapsOf t m (b .lent)) (b .result))
-    alike (replies k) = both-refused (eqb k 2) k (told (unfitReply (b .lent .image)) none)
+    alike (replies k) = both-refused (eqb k 2) k (told (unfitReply (b .lent .image) (b .lent .area)) none)

@@ -26,12 +26,12 @@ module _ (session : List ℕ) (n since : ℕ) where
   abbrev pub endWith : List ℕ → End → End
   endWith log e = endAt (e .reply) (relogged log (e .world))
 
-  pub end-unwatched : (m : Machine) (l : Lent) → endOf asked m l ≡ endWith (l .log) (endOf (terms session n) m (lent (l .image) (l .output)))
+  pub end-unwatched : (m : Machine) (l : Lent) → endOf asked m l ≡ endWith (l .log) (endOf (terms session n) m (lent (l .image) (l .area) (l .output)))
   unfolding endOf refusalOf
   end-unwatched m l = by (refusalOf asked m l)
     where
       less : Lent
-      less = lent (l .image) (l .output)
+      less = lent (l .image) (l .area) (l .output)
 
       ran : ranOf asked m l ≡ endedWith (l .log) (ranOf (terms session n) m less)
       ran = ordinary-run asked (startWorld m l) ∙ log-unread (terms session n) m less (l .log)

@@ -52,7 +52,7 @@ module _ (session : List ℕ) (n bits since : ℕ) (b : Buffers) where
     pub watch-writes-nothing : 26 ≤ call .number → call .left ≡ b
     watch-writes-nothing = watch-cases (λ c. 26 ≤ c .number → c .left ≡ b) (λ _ _. refl) (λ _. writes-nothing leaping asked b)
 
-  -- both return the same number and leave the same image, machine, output and log, and the same first 40 bytes of the result
+  -- both return the same number and leave the same image, area, machine, output and log, and the same first 40 bytes of the result
   pub watches-agree : 44 ≤ length (b .result) → Agree (call false) (call true)
   unfolding watchCall
   watches-agree h = cases2 Agree (unknownBits bits) (λ _. (refl, refl, refl, refl)) (λ _. runs-agree asked b h)
@@ -64,13 +64,13 @@ calledWith log c = called (c .number) (buffers (c .left .machine) (withLog (c .l
 -- with no bit set it is the ordinary call, whatever log is lent, and the log is untouched
 pub watch-nothing : (leaping : Bool) (session : List ℕ) (n since : ℕ) (b : Buffers)
     → watchCall leaping session n 0 since b
-    ≡ calledWith (b .lent .log) (runCall leaping (terms session n) (buffers (b .machine) (lent (b .lent .image) (b .lent .output)) (b .result)))
+    ≡ calledWith (b .lent .log) (runCall leaping (terms session n) (buffers (b .machine) (lent (b .lent .image) (b .lent .area) (b .lent .output)) (b .result)))
 unfolding watchCall runCall
 watch-nothing leaping session n since b =
     cases2 Same (ltb (length (b .result)) (recordSize leaping)) (λ _. refl) (λ _. by (loadOf (b .machine)))
   where
     less : Buffers
-    less = buffers (b .machine) (lent (b .lent .image) (b .lent .output)) (b .result)
+    less = buffers (b .machine) (lent (b .lent .image) (b .lent .area) (b .lent .output)) (b .result)
 
     Same : Called → Called → Type 0
     Same c d = c ≡ calledWith (b .lent .log) d

@@ -85,12 +85,13 @@ fn admit(image: &[u8], area: &[u8], m: Machine, session: &[u8], n: u32) -> Admis
     ensures { λ r. ⌜ ((watch : Watch) (l : Lent) → toldAdmission r
         ≡ refusalOf (watching (now (session .entry)) n watch) m (withMemories l (memories (now (image .entry)) (now (area .entry))))) ⌝ }
 {
+    let wrong_area = area.len() != 128;
     let wrong_machine = !m.in_ranges();
     let wrong_limit = n > 1000000000;
     if image.len() != 65536 {
         return Admission::Refused(Reply::WrongImage);
     }
-    if area.len() != 128 {
+    if wrong_area {
         return Admission::Refused(Reply::WrongArea);
     }
     if wrong_machine {

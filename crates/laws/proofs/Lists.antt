@@ -1,9 +1,9 @@
--- Laws of lists: values stored one after another, a store past a front, and all that follows a place. Assumes nothing.
+-- Laws of lists: values stored one after another, a store past a front, no element, and all that follows a place. Assumes nothing.
 use Prim.Native.Nat.{ℕ, suc, _+_, _-_, _≤_}
 use native.Mathlib.Nat.{zero-add, suc-add, add-zero, add-suc, le-of-eq}
 use native.Mathlib.Omega.{arith}
 use mathlib.Core.List.{List, [], _∷_, _++_}
-use mathlib.Core.Path.{_≡_, sym, ap, _∙_}
+use mathlib.Core.Path.{_≡_, refl, sym, ap, _∙_}
 use lib.ListN.{length, set, take, drop, length-append, length-drop}
 use lib.Seq.{sets, sets-eq, take-all, take-at, drop-at, length-take-le}
 
@@ -30,6 +30,11 @@ pub set-append-add : (xs ys : List ℕ) (n a : ℕ) → set (xs ++ ys) (length x
 set-append-add [] ys n a = ap (λ (k : ℕ). set ys k a) (zero-add n)
 set-append-add (x ∷ xs) ys n a =
     ap (λ (k : ℕ). set (x ∷ (xs ++ ys)) k a) (suc-add (length xs) n) ∙ ap (λ (r : List ℕ). x ∷ r) (set-append-add xs ys n a)
+
+-- a list with no element
+pub no-bytes : (l : List ℕ) → length l ≡ 0 → l ≡ []
+no-bytes [] e = refl
+no-bytes (x ∷ l) e = absurd (let z : ⊥ = omega arith in z)
 
 -- all that follows a place
 pub take-rest : (k : ℕ) (l : List ℕ) → take (length l - k) (drop k l) ≡ drop k l

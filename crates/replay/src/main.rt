@@ -7,6 +7,7 @@ use machine::Look;
 use machine::Machine;
 use machine::Moved;
 use machine::Power;
+use opcodes::Instruction;
 use registers::Registers;
 ghost use Prim.Native.Nat.{_≤_};
 
@@ -196,14 +197,24 @@ fn compare(moved: Moved, case: &[u8], image: &mut [u8]) -> Difference {
     }
 }
 
-fn replay(machine: Machine, case: &[u8], image: &mut [u8]) -> Difference {
-    place(case, image);
-    let m = start(machine, case);
-    let Look::Runs(i) = m.look(image) else {
+// One step; bit 6 of $14 is set, so that no byte of the area is met.
+fn step(m: Machine, i: Instruction, image: &mut [u8]) -> Moved {
+    let mut area = [0u8; 128];
+    m.step(i, image, &mut area)
+}
+
+// The instruction at PC, and what it left.
+fn executed(m: Machine, case: &[u8], image: &mut [u8]) -> Difference {
+    let Look::Runs(i) = m.look(image, b"") else {
         take_cells(case, image);
         return Difference::Undefined;
     };
-    compare(m.step(i, image), case, image)
+    compare(step(m, i, image), case, image)
+}
+
+fn replay(machine: Machine, case: &[u8], image: &mut [u8]) -> Difference {
+    place(case, image);
+    executed(start(machine, case), case, image)
 }
 
 impl Tally {

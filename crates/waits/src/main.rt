@@ -69,7 +69,8 @@ fn single(code: &[u8], handler: &[u8], session: &[u8], n: u32) {
     let Power::On(m) = cabinet::power_on(&image, 65536) else {
         return;
     };
-    let r = cabinet::run_single(&mut image, m, session, n, &mut output);
+    let mut area = [0u8; 128];
+    let r = cabinet::run_single(&mut image, &mut area, m, session, n, &mut output);
     io::write_all(1, b"  single ");
     show(r, image[0x80], image[0x81]);
     io::write_all(1, b"\n");
@@ -81,7 +82,8 @@ fn leaping(code: &[u8], handler: &[u8], session: &[u8], n: u32) {
     let Power::On(m) = cabinet::power_on(&image, 65536) else {
         return;
     };
-    let l = cabinet::run_leaping(&mut image, m, session, n, &mut output);
+    let mut area = [0u8; 128];
+    let l = cabinet::run_leaping(&mut image, &mut area, m, session, n, &mut output);
     io::write_all(1, b"  leaping");
     let r = l.ran;
     show(r, image[0x80], image[0x81]);

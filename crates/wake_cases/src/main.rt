@@ -197,7 +197,17 @@ fn single(opcode: u8, session: &[u8], s: Start, room: Room, output: &mut [u8], l
         return;
     };
     let start = started(m, s);
-    let r = cabinet::watch_single(&mut image, start, session, room.n, room.watch, output, log);
+    let mut area = [0u8; 128];
+    let r = cabinet::watch_single(
+        &mut image,
+        &mut area,
+        start,
+        session,
+        room.n,
+        room.watch,
+        output,
+        log,
+    );
     io::write_all(1, b"  single ");
     show(r, &log[..]);
     io::write_all(1, b"\n");
@@ -209,7 +219,17 @@ fn leaping(opcode: u8, session: &[u8], s: Start, room: Room, output: &mut [u8], 
         return;
     };
     let start = started(m, s);
-    let l = cabinet::watch_leaping(&mut image, start, session, room.n, room.watch, output, log);
+    let mut area = [0u8; 128];
+    let l = cabinet::watch_leaping(
+        &mut image,
+        &mut area,
+        start,
+        session,
+        room.n,
+        room.watch,
+        output,
+        log,
+    );
     let r = l.ran;
     io::write_all(1, b"  leaping");
     show(r, &log[..]);

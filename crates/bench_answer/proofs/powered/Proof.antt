@@ -35,8 +35,10 @@ powered-spec =
     (λ c. rw (← c .before .before .before .power-on .ensures, c .before .enum-told2 .given .1) (c .refused2 .ensures))  -- returns-2
     (λ c. search needs)  -- same-length-3
     (λ c.
-    rw (← c .before .before .before .before .before .before .before .before .before .before .before .before .power-on .ensures, c .before .before .before .before .before .before .before .before .before .before .power .given .1)
+    let d = c .before .before .before .before .before in
+    let e = d .before .before .before .before .before in
+    rw (← e .before .before .power-on .ensures, e .power .given .1)
     (c .report .ensures
     ∙ ap (λ t. putsOf emptyLine t)
-    (text-alone (c .before .before .before .before .before .run-leaping .result .ran) (lent (c .before .before .before .before .before .run-leaping .last .0) (c .before .before .before .before .before .run-leaping .last .1 .1 .1 .1 .0))
-    ∙ ap textOf (c .before .before .before .before .before .run-leaping .ensures .0)))))  -- returns-3
+    (text-alone (d .run-leaping .result .ran) (lent (d .run-leaping .last .0) (d .run-leaping .last .1 .0) (d .run-leaping .last .1 .1 .1 .1 .1 .0))
+    ∙ ap textOf (d .run-leaping .ensures .0)))))  -- returns-3

@@ -18,9 +18,10 @@ plain-call-spec =
     (λ c. search needs)  -- same-length-2
     (λ c. search needs)  -- same-length-3
     (λ c. search needs)  -- same-length-4
+    (λ c. search needs)  -- same-length-5
     (λ c.
-    let d = c .before .before .before .before .before .before .before .before .before in
-    let a = d .before .before .before .before .before .before .before .before .before .before .before .before .args in
-    let b = buffers (a .machine .now) (lent (a .image .now) (a .output .now)) (a .result .now) in
+    let d = c .before .before .before .before .before .before .before .before .before .before .before in
+    let a = d .before .before .before .before .before .before .before .before .before .before .before .before .before .before .args in
+    let b = buffers (a .machine .now) (lent (a .image .now) (a .area .now) (a .output .now)) (a .result .now) in
     let run = d .run-call in
-    plain-left (a .leaping) (a .session .now) (a .n) b (d .before .before .before .before .nothing .ensures) (run .kept .1 .1 .1 .1 .1 .1 .1 .0) (run .ensures)))  -- returns
+    plain-left (a .leaping) (a .session .now) (a .n) b (d .before .before .before .before .nothing .ensures) (run .kept .1 .1 .1 .1 .1 .1 .1 .1 .0) (run .ensures)))  -- returns

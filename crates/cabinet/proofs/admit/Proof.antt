@@ -1,7 +1,8 @@
 -- `admit` makes the tests in their order. Assumes nothing.
 use borrow.Author.Needs.{needs}
 use mathlib.Core.Path.{sym, ap, _∙_}
-use borrow.Author.Tests.{not-true, not-false, ltb-true, ltb-false}
+use lib.ListN.{length}
+use borrow.Author.Tests.{not-true, not-false, eqb-true, eqb-false, ltb-true, ltb-false}
 use Rattle.replies.specs.Replies.{toldCheck}
 use Rattle.bus.specs.Access.{memories}
 use Rattle.boundary.specs.World.{withMemories, watching}
@@ -21,16 +22,24 @@ admit-spec =
     let a = c .before .before .before .before .before .before .args in
     sym
     (refuses-12 (watching (a .session .now) (a .n) watch) (a .m) (withMemories l (memories (a .image .now) (a .area .now))) (c .before .if1 .left)
-    (c .if2 .taken)))  -- returns-2
+    (eqb-false (length (a .area .now)) 128 (not-true _ (c .if2 .taken)))))  -- returns-2
     (λ c watch l.
     let a = c .before .before .before .before .before .before .before .args in
     sym
-    (refuses-2 (watching (a .session .now) (a .n) watch) (a .m) (withMemories l (memories (a .image .now) (a .area .now))) (c .before .before .if1 .left, c .before .if2 .left)
+    (refuses-2 (watching (a .session .now) (a .n) watch) (a .m) (withMemories l (memories (a .image .now) (a .area .now))) (
+      c .before .before .if1 .left,
+      eqb-true (length (a .area .now)) 128
+          (not-false _ (c .before .if2 .left)),
+    )
     (sym (c .before .before .before .in-ranges .ensures) ∙ not-true _ (c .if3 .taken))))  -- returns-3
     (λ c watch l.
     let a = c .before .before .before .before .before .before .before .before .args in
     sym
-    (refuses-3 (watching (a .session .now) (a .n) watch) (a .m) (withMemories l (memories (a .image .now) (a .area .now))) (c .before .before .before .if1 .left, c .before .before .if2 .left)
+    (refuses-3 (watching (a .session .now) (a .n) watch) (a .m) (withMemories l (memories (a .image .now) (a .area .now))) (
+      c .before .before .before .if1 .left,
+      eqb-true (length (a .area .now)) 128
+          (not-false _ (c .before .before .if2 .left)),
+    )
     (sym (c .before .before .before .before .in-ranges .ensures) ∙ not-false _ (c .before .if3 .left))
     (ltb-true 1000000000 (a .n) (c .if4 .taken))))  -- returns-4
     (λ c κs. search needs)  -- check-requires
@@ -42,7 +51,7 @@ admit-spec =
     ∙ sym
     (session-decides (watching (a .session .now) (a .n) watch) (a .m) (withMemories l (memories (a .image .now) (a .area .now))) (
       c .before .before .before .before .before .if1 .left,
-      c .before .before .before .before .if2 .left,
+      eqb-true (length (a .area .now)) 128 (not-false _ (c .before .before .before .before .if2 .left)),
     )
     (sym (c .before .before .before .before .before .before .in-ranges .ensures) ∙ not-false _ (c .before .before .before .if3 .left))
     (ltb-false 1000000000 (a .n) (c .before .before .if4 .left)))))  -- returns-5

@@ -1,19 +1,14 @@
 -- `run_either` meets its contract: the watched run's answer, with nothing watched and no log. Assumes nothing.
 use Prim.Native.Nat.{ℕ}
-use native.Mathlib.Omega.{arith}
 use borrow.Author.Needs.{needs}
-use mathlib.Core.List.{List, [], _∷_}
-use mathlib.Core.Path.{_≡_, refl, sym, ap, _∙_}
-use lib.ListN.{length}
+use mathlib.Core.List.{List}
+use mathlib.Core.Path.{sym, ap, _∙_}
+use Rattle.laws.proofs.Lists.{no-bytes}
 use Rattle.boundary.specs.declared.Watch.{Watch}
 use Rattle.boundary.specs.World.{lent, lending, watching}
 use Rattle.cabinet.specs.Answers.{answered, answerOf, leapsOf}
 use Rattle.cabinet.proofs.run_either.Statement.{statement}
 use Rattle.cabinet.proofs.run_either.Tie as tie
-
-no-bytes : (l : List ℕ) → length l ≡ 0 → l ≡ []
-no-bytes [] e = refl
-no-bytes (b ∷ l) e = absurd (let z : ⊥ = omega arith in z)
 
 pub run-either-spec : {M : Type 1} → statement M
 run-either-spec =
