@@ -1,5 +1,5 @@
-// Refusals and stops of a night, nights with the wake log, and the edges of reading numbers and joining names. docs/FORMATS.md has the
-// numbers, docs/CASES.md works out the nights with the log.
+// Refusals and stops of a night, nights with the wake log and with the area, and the edges of reading numbers and joining names.
+// docs/FORMATS.md has the numbers, docs/CASES.md works out the nights with the log and with the area.
 use boundary::Watch;
 use counts::Cycles;
 use machine::Machine;
@@ -33,11 +33,13 @@ fn show_joined(name: &[u8], ending: &[u8]) {
 // A night of 100 cycles from power-on, with the opcodes at $0100.
 fn show_night(image: &mut [u8], session: &mut [u8], output: &mut [u8], spare: &mut [u8]) {
     let size = session.len();
+    let mut area = [0u8; 128];
     let mut none = [0u8; 0];
     let power = cabinet::power_on(&image[..], 65536);
     match power {
         Power::On(m) => night_slices::run_night(
                 image,
+                &mut area,
                 m,
                 session,
                 size,
@@ -49,33 +51,32 @@ fn show_night(image: &mut [u8], session: &mut [u8], output: &mut [u8], spare: &m
             )
             .line()
             .print(),
-        Power::WrongImage => Line::empty().text(b"no machine\n").print(),
-        Power::WrongStart => Line::empty().text(b"no machine\n").print(),
+        _ => Line::empty().text(b"no machine\n").print(),
     }
 }
 
-fn rom() -> [u8; 65536] {
+fn install(image: &mut [u8], at: usize, code: &[u8]) {
+    if at <= image.len() {
+        if code.len() <= image.len() - at {
+            bytes::copy(code, &mut image[at..]);
+        }
+    }
+}
+
+// An image with this code at $0100, where power-on leads, and at $0120 an RTI, where NMI and IRQ1 lead.
+fn rom(code: &[u8]) -> [u8; 65536] {
     let mut image = [0u8; 65536];
-    image[0xFFFE] = 1;
+    install(&mut image, 0x0100, code);
+    install(&mut image, 0x0120, b"\x3B");
+    install(&mut image, 0xFFF8, b"\x01\x20\0\0\x01\x20\x01\0");
     image
 }
 
 // LDAA #$02, STAA $11, LDAA $11, STAA $13: the byte $22 is to be sent.
-fn sending() -> [u8; 65536] {
-    let mut image = rom();
-    image[0x0100] = 0x86;
-    image[0x0101] = 0x02;
-    image[0x0102] = 0x97;
-    image[0x0103] = 0x11;
-    image[0x0104] = 0x96;
-    image[0x0105] = 0x11;
-    image[0x0106] = 0x97;
-    image[0x0107] = 0x13;
-    image
-}
+const SENDING: [u8; 8] = *b"\x86\x02\x97\x11\x96\x11\x97\x13";
 
 fn show_refused() {
-    let mut image = rom();
+    let mut image = rom(b"");
     let mut output = [0u8; 4];
     let mut room = [0u8; 16];
     let mut none = [0u8; 0];
@@ -88,32 +89,15 @@ fn show_refused() {
 }
 
 fn show_stopped() {
-    let mut image = rom();
+    let mut image = rom(b"");
     let mut output = [0u8; 4];
     let mut none = [0u8; 0];
     let mut room = [0u8; 16];
     let mut idle = [6u8, 0, 6, 0, 0, 0, 0, 0];
     show_night(&mut image, &mut idle, &mut output, &mut room);
-    let mut full = sending();
+    let mut full = rom(&SENDING);
     let mut session = [0u8; 0];
     show_night(&mut full, &mut session, &mut none, &mut room);
-}
-
-// LDS #$00FF, CLI, then WAI and a BRA back to it; NMI and IRQ1 lead to an RTI.
-fn waking() -> [u8; 65536] {
-    let mut image = rom();
-    image[0x0100] = 0x8E;
-    image[0x0102] = 0xFF;
-    image[0x0103] = 0x0E;
-    image[0x0104] = 0x3E;
-    image[0x0105] = 0x20;
-    image[0x0106] = 0xFD;
-    image[0x0110] = 0x3B;
-    image[0xFFF8] = 0x01;
-    image[0xFFF9] = 0x10;
-    image[0xFFFC] = 0x01;
-    image[0xFFFD] = 0x10;
-    image
 }
 
 fn show_bytes(name: &[u8], bytes: &[u8]) {
@@ -124,9 +108,10 @@ fn show_bytes(name: &[u8], bytes: &[u8]) {
     line.text(b"\n").print();
 }
 
-// A night, the rest of its session, and all of its log.
-fn show_logged(
+// A night, and the rest of its session.
+fn show_watched(
     image: &mut [u8],
+    area: &mut [u8],
     m: Machine,
     session: &mut [u8],
     size: usize,
@@ -142,6 +127,7 @@ fn show_logged(
     };
     let night = night_slices::run_night(
         image,
+        area,
         m,
         session,
         size,
@@ -153,9 +139,27 @@ fn show_logged(
     );
     night.line().print();
     show_bytes(b"rest ", cabinet::filled(&session[..], night.length));
+    night
+}
+
+// The same, and all of its log.
+fn show_logged(
+    image: &mut [u8],
+    m: Machine,
+    session: &mut [u8],
+    size: usize,
+    n: u32,
+    asked: bool,
+    log: &mut [u8],
+) -> Night {
+    let mut area = [0u8; 128];
+    let night = show_watched(image, &mut area, m, session, size, n, asked, log);
     show_bytes(b"log ", &log[..]);
     night
 }
+
+// LDS #$00FF, CLI, then WAI and a BRA back to it.
+const WAITING: [u8; 7] = *b"\x8E\0\xFF\x0E\x3E\x20\xFD";
 
 // NMI and IRQ1 at 100, IRQ1 high at 130, NMI at 1,000,000,007 and at 2,000,000,000.
 const WAKING: [u8; 42] =
@@ -163,7 +167,7 @@ const WAKING: [u8; 42] =
 
 // A night of 1,000,000,100 cycles. What is left of them is run with another log.
 fn show_waking(asked: bool, log: &mut [u8], further: &mut [u8]) {
-    let mut image = waking();
+    let mut image = rom(&WAITING);
     let mut session = WAKING;
     let power = cabinet::power_on(&image, 65536);
     match power {
@@ -182,8 +186,7 @@ fn show_waking(asked: bool, log: &mut [u8], further: &mut [u8]) {
                 );
             }
         }
-        Power::WrongImage => Line::empty().text(b"no machine\n").print(),
-        Power::WrongStart => Line::empty().text(b"no machine\n").print(),
+        _ => Line::empty().text(b"no machine\n").print(),
     }
 }
 
@@ -197,6 +200,38 @@ fn show_logs() {
     show_waking(true, &mut short, &mut further);
     let mut unused = [0xEEu8; 8];
     show_waking(false, &mut unused, &mut further);
+}
+
+// LDS #$0087, INC $0080, CLR $0014, INC $0080, WAI, INC $0080, LDAA #$40, STAA $14, INC $0080, WAI.
+const LEAVING: [u8; 24] =
+    *b"\x8E\0\x87\x7C\0\x80\x7F\0\x14\x7C\0\x80\x3E\x7C\0\x80\x86\x40\x97\x14\x7C\0\x80\x3E";
+
+// A night of 1,000,000,100 cycles with this area, and its first bytes.
+fn show_area(image: &mut [u8], area: &mut [u8], m: Machine, session: &mut [u8]) -> Night {
+    let mut none = [0u8; 0];
+    let size = session.len();
+    let night = show_watched(image, area, m, session, size, 1000000100, false, &mut none);
+    show_bytes(b"area ", cabinet::filled(&area[..], 10));
+    night
+}
+
+// A night that is refused for its area, and one from what it left. NMI comes at 1,000,000,007.
+fn show_areas() {
+    let mut image = rom(&LEAVING);
+    let mut session = *b"\x06\0\x04\0\x07\xCA\x9A\x3B";
+    let mut short = [0x20u8; 127];
+    let mut area = [0x20u8; 128];
+    let power = cabinet::power_on(&image, 65536);
+    match power {
+        Power::On(m) => {
+            let night = show_area(&mut image, &mut short, m, &mut session);
+            show_bytes(b"ram ", &image[0x80..0x8A]);
+            let left = night.machine;
+            show_area(&mut image, &mut area, left, &mut session);
+            show_bytes(b"ram ", &image[0x80..0x8A]);
+        }
+        _ => Line::empty().text(b"no machine\n").print(),
+    }
 }
 
 fn main() {
@@ -213,4 +248,5 @@ fn main() {
     show_refused();
     show_stopped();
     show_logs();
+    show_areas();
 }

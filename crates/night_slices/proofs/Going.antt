@@ -49,6 +49,7 @@ limit-reached : (asked : Terms) (m : Machine) (given : Lent) → let a = answerO
 limit-reached asked m given =
     end-cases asked m given (λ x. x .reply .number ≡ 0 → asked .limit ≤ x .world .state .cycles .0)
     (λ l d. absurd (let z : ⊥ = omega arith in z))
+    (λ l k d. absurd (let z : ⊥ = omega arith in z))
     (λ l r d. absurd (let z : ⊥ = omega arith in z))
     (λ l r h d. absurd (let z : ⊥ = omega arith in z))
     (λ p f e d. absurd (let k = fault-number f in let z : ⊥ = omega arith in z))

@@ -240,7 +240,7 @@ impl Night {
 
     // Whether another slice follows.
     fn goes_on(self) -> bool
-        ensures { λ r. ⌜ r ≡ goesOn (standing self (lent [] []) []) ⌝ }
+        ensures { λ r. ⌜ r ≡ goesOn (standing self (lent [] [] []) []) ⌝ }
     {
         let ended = self.ended;
         at_limit(ended) & (self.left > 0)
@@ -256,7 +256,7 @@ impl Night {
 
     // The night's line.
     pub fn line(self) -> Line
-        ensures { λ r. ⌜ r ≡ putsOf emptyLine (nightText (standing self (lent [] []) [])) ⌝ }
+        ensures { λ r. ⌜ r ≡ putsOf emptyLine (nightText (standing self (lent [] [] []) [])) ⌝ }
     {
         let n = Numbers {
             cycles: self.cycles.0,
@@ -279,6 +279,7 @@ impl Night {
 // One slice. Its line is printed.
 fn slice(
     image: &mut [u8],
+    area: &mut [u8],
     session: &mut [u8],
     output: &mut [u8],
     log: &mut [u8],
@@ -287,8 +288,8 @@ fn slice(
 ) -> Night
     requires { ⌜ (night .length ≤ length (now session)) × (night .length ≤ length (now spare)) × (night .sent ≤ length (now output))
         × (night .logged ≤ length (now log)) ⌝ }
-    ensures { λ r. ⌜ (standing r (lending (now (image .exit)) (now (output .exit)) (now (log .exit))) (now (session .exit))
-        ≡ sliceOf (standing night (lending (now (image .entry)) (now (output .entry)) (now (log .entry))) (now (session .entry))))
+    ensures { λ r. ⌜ (standing r (lending (now (image .exit)) (now (area .exit)) (now (output .exit)) (now (log .exit))) (now (session .exit))
+        ≡ sliceOf (standing night (lending (now (image .entry)) (now (area .entry)) (now (output .entry)) (now (log .entry))) (now (session .entry))))
         × (r .length ≤ night .length) × (r .sent ≤ length (now (output .entry))) × (r .logged ≤ length (now (log .entry))) ⌝ }
 {
     let size = night.length;
@@ -298,6 +299,7 @@ fn slice(
     let watch = night.watch;
     let leapt = cabinet::watch_leaping(
         image,
+        area,
         m,
         &session[..size],
         slice_of(night.left),
@@ -316,6 +318,7 @@ fn slice(
 // all slices log into `log`, one after another. Each slice's line is printed.
 pub fn run_night(
     image: &mut [u8],
+    area: &mut [u8],
     m: Machine,
     session: &mut [u8],
     size: usize,
@@ -325,9 +328,9 @@ pub fn run_night(
     log: &mut [u8],
     spare: &mut [u8],
 ) -> Night
-    ensures { λ r. ⌜ standing r (lending (now (image .exit)) (now (output .exit)) (now (log .exit))) (now (session .exit))
+    ensures { λ r. ⌜ standing r (lending (now (image .exit)) (now (area .exit)) (now (output .exit)) (now (log .exit))) (now (session .exit))
         ≡ nightOf (watching (take size (now (session .entry))) n watch) m
-        (lending (now (image .entry)) (now (output .entry)) (now (log .entry))) (length (now (spare .entry))) ⌝ }
+        (lending (now (image .entry)) (now (area .entry)) (now (output .entry)) (now (log .entry))) (length (now (spare .entry))) ⌝ }
 {
     let size = least(size, session.len());
     if spare.len() < size {
@@ -335,7 +338,7 @@ pub fn run_night(
     }
     let mut night = Night::start(SliceEnd::Ran(Reply::Limit), m, size, n, watch);
     loop {
-        night = slice(image, session, output, log, spare, night);
+        night = slice(image, area, session, output, log, spare, night);
         if !night.goes_on() {
             return night;
         }

@@ -14,7 +14,7 @@ use borrow.Author.Tests.{le-ltb, ltb-false}
 use Rattle.laws.proofs.Conds.{picks, passes}
 use Rattle.session.specs.Session.{checkOf}
 use Rattle.session.specs.declared.Checked.the-variants.{Sound}
-use Rattle.replies.specs.Replies.{Told, told, stops}
+use Rattle.replies.specs.Replies.{Told, told}
 use Rattle.machine.specs.declared.Machine.{Machine}
 use Rattle.machine.specs.Machine.{Ranges, rangesOf}
 use Rattle.machine.proofs.Ranges.{ranges-say, say-ranges}
@@ -26,10 +26,11 @@ use Rattle.boundary.specs.Boundary.{runOf}
 use Rattle.boundary.specs.Start.{startWorld, ranOf}
 use Rattle.boundary.proofs.Cases.{at-limit}
 use Rattle.boundary.proofs.Runs.{run-done}
-use Rattle.boundary.proofs.Kept.{image-length}
+use Rattle.boundary.proofs.Kept.{same-lengths}
 use Rattle.boundary.proofs.Output.{filled-part}
 use Rattle.boundary_theorems.proofs.InRanges.{run-ranges}
 use Rattle.cabinet.specs.Answers.{toldStop, End, endAt, endOf, Answer, answerAt}
+use Rattle.cabinet.proofs.Ends.{Lengths, stop-stops}
 use Rattle.cabinet_theorems.proofs.Exactly.{admitted-end}
 use Rattle.cabinet_theorems.proofs.Left.{log-part}
 use Rattle.rest.specs.Rest.{placeOf, restOf}
@@ -154,12 +155,6 @@ next s e =
     keptAfter s (e .world) (keeping (toldStop (e .stop)) (restOf (s .session) (x .used .0) (x .cycles .0)))
 
 -- a run that stopped keeps the rest of a sound session
-stop-stops : (k : Stop) → stops (stopNumber k) ≡ true
-stop-stops Limit = refl
-stop-stops Undefined = refl
-stop-stops Full = refl
-stop-stops LogFull = refl
-
 keeps-rest : (k : Stop) (session : List ℕ) (used cycles : ℕ) → checkOf session ≡ Sound → placeOf session used ≤ length session
     → length (restOf session used cycles) ≤ length session
     → keepingOf (toldStop k) session used cycles ≡ keeping (toldStop k) (restOf session used cycles)
@@ -214,7 +209,7 @@ joins s e t v leaps inside h g l =
 
 -- where no slice is refused
 pub record Good (s : Standing) : Type 0 where
-  pub image-long : length (s .lent .image) ≡ 65536
+  pub lengths : Lengths (s .lent)
   pub in-ranges : rangesOf (s .machine) ≡ true
   pub sound : checkOf (s .session) ≡ Sound
   pub fits : s .sent ≤ length (s .lent .output)
@@ -236,7 +231,7 @@ module _ (s : Standing) (g : Good s) where
   slice-ends : endOf asked (s .machine) given ≡ ended first
   slice-ends =
       admitted-end asked (s .machine) given (
-        record { image-long = g .image-long; in-ranges = ranges-say (s .machine .chip .bus) (g .in-ranges); within = slice-most (s .left) },
+        record { lengths = g .lengths; in-ranges = ranges-say (s .machine .chip .bus) (g .in-ranges); within = slice-most (s .left) },
         g .sound,
       )
 
@@ -256,7 +251,7 @@ module _ (s : Standing) (g : Good s) where
       let x = first .world in
       let rows = loggedBytes (s .watch) (x .state .entries .0) in
       record {
-        image-long = image-length asked (startWorld (s .machine) given) ∙ g .image-long;
+        lengths = let k = same-lengths asked (startWorld (s .machine) given) in (k .0 ∙ g .lengths .0, k .1 ∙ g .lengths .1);
         in-ranges = run-ranges asked (s .machine) given (g .sound) (g .in-ranges);
         sound = after-sound (s .session) (s .watch) (s .machine) given n₁ (g .sound);
         fits = seam-fits (s .sent) (x .state .sent .0) (s .lent .output) (x .lent .output) (g .fits)
@@ -325,8 +320,8 @@ slices-run (suc k) s g l = by (λ t. slices-run k t) (goesOn (sliceOf s)) refl
         ap shown (slices-done s f ∙ e)
         ∙ ap (λ (x : Ended). summed s (answerAt (ended x))) (sym (last-whole s g (subst (λ (x : Standing). goesOn x ≡ false) e f)))
 
--- A night ended as a run did: its reply, machine, image, output, log and bytes sent are the run's, and its sums are the run's counts, which
--- go round at 2^64.
+-- A night ended as a run did: its reply, machine, image, area, output, log and bytes sent are the run's, and its sums are the run's counts,
+-- which go round at 2^64.
 pub record EndsAs (s : Standing) (e : Ended) : Type 0 where
   pub told : s .told ≡ toldStop (e .stop)
   pub machine : s .machine ≡ e .world .state .machine
@@ -338,12 +333,12 @@ pub record EndsAs (s : Standing) (e : Ended) : Type 0 where
   pub used : s .used ≡ e .world .state .used .0 % 2 ^ 64
 
 module _ (asked : Terms) (m : Machine) (given : Lent)
-    (long : length (given .image) ≡ 65536) (ranges : Ranges (m .chip .bus)) (sound : checkOf (asked .session) ≡ Sound) where
+    (lengths : Lengths given) (ranges : Ranges (m .chip .bus)) (sound : checkOf (asked .session) ≡ Sound) where
   -- the slices of N, for any N, end as the boundaries until one stops them, with the limit N, do
   pub slices-one-run : EndsAs (slicesOf (nightAt (told 0 none) asked m given)) (ranOf asked m given)
   slices-one-run =
       let s = nightAt (told 0 none) asked m given in
-      let good : Good s = record { image-long = long; in-ranges = say-ranges (m .chip .bus) ranges; sound = sound; fits = omega arith; log-fits = omega arith } in
+      let good : Good s = record { lengths = lengths; in-ranges = say-ranges (m .chip .bus) ranges; sound = sound; fits = omega arith; log-fits = omega arith } in
       let p = slices-run (suc (asked .limit)) s good (omega arith) in
       record {
         told = ap (λ (a : Answer). a .reply) p;

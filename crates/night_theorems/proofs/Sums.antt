@@ -24,6 +24,7 @@ use Rattle.boundary.specs.declared.Stop.{Stop}
 use Rattle.boundary.specs.declared.Watch.{Watch}
 use Rattle.boundary.specs.Start.{startWorld, ranOf}
 use Rattle.boundary.proofs.Kept.{Reached, limit-reached, cycles-bound, counts-fine, place-within}
+use Rattle.cabinet.proofs.Ends.{Lengths}
 use Rattle.rest.specs.Rest.{restOf}
 use Rattle.rest.proofs.Again.{rest-of-rest}
 use Rattle.log_theorems.specs.Wakes.{rowsBytes, wakesOf}
@@ -171,14 +172,14 @@ alone e l = omega arith
 
 -- N as a night is asked it, and a session that a slice holds
 module _ (asked : Terms) (m : Machine) (given : Lent)
-    (long : length (given .image) ≡ 65536) (ranges : Ranges (m .chip .bus)) (sound : checkOf (asked .session) ≡ Sound)
+    (lengths : Lengths given) (ranges : Ranges (m .chip .bus)) (sound : checkOf (asked .session) ≡ Sound)
     (n-fits : asked .limit < 2 ^ 32) (session-fits : length (asked .session) < 2 ^ 64) where
   pub slices-sums : SumsAs (slicesOf (nightAt (told 0 none) asked m given)) asked (ranOf asked m given)
   slices-sums =
       let s = nightAt (told 0 none) asked m given in
-      let good : Good s = record { image-long = long; in-ranges = say-ranges (m .chip .bus) ranges; sound = sound; fits = omega arith; log-fits = omega arith } in
+      let good : Good s = record { lengths = lengths; in-ranges = say-ranges (m .chip .bus) ranges; sound = sound; fits = omega arith; log-fits = omega arith } in
       let c = slices-come (suc (asked .limit)) s good (omega arith) in
-      let ends = slices-one-run asked m given long ranges sound in
+      let ends = slices-one-run asked m given lengths ranges sound in
       let cycles = cycles-bound asked m given in
       let fine = counts-fine asked m given in
       let place = place-within asked m given sound in
@@ -218,7 +219,7 @@ module _ (asked : Terms) (m : Machine) (given : Lent)
       let s = nightOf asked m given room in
       let k = ranOf asked m given .world .state .entries .0 in
       ap (λ (j : ℕ). take j (s .lent .log)) (night-sums room l .logged ∙ ap (λ (b : Bool). cond b (8 * k) 0) a)
-      ∙ ap (λ (x : Lent). take (8 * k) (x .log)) (night-one-run asked m given long ranges sound room l .lent)
+      ∙ ap (λ (x : Lent). take (8 * k) (x .log)) (night-one-run asked m given lengths ranges sound room l .lent)
       ∙ log-filled asked m given a
 
   -- each of them, where nothing had passed before the night
@@ -227,7 +228,7 @@ module _ (asked : Terms) (m : Machine) (given : Lent)
   night-row a z room l k h =
       let n = night-sums room l .entries in
       let r = row-told asked m given a k (omega (arith, h, n)) in
-      let same = ap (λ (x : Lent). rowAt (x .log) k) (night-one-run asked m given long ranges sound room l .lent) ∙ r .read in
+      let same = ap (λ (x : Lent). rowAt (x .log) k) (night-one-run asked m given lengths ranges sound room l .lent) ∙ r .read in
       let c = r .entered .unwrapped (omega (arith, z, n-fits)) in
       let cycle = ap (λ (x : Row). x .cycle) same in
       let count = c .0 in
