@@ -114,7 +114,8 @@ class Code:
         if r.random() < self.daring:
             return r.choice([
                 lambda: bytes([0x3E]), lambda: bytes([0x0E, 0x3E]), lambda: bytes([0x8E]) + big(r.randrange(0x20)), lambda: bytes([0x9D, 0x12]),
-                lambda: bytes([0x3B]), lambda: 0x7E, lambda: store(0x19, 0x11) + bytes([0x9D, 0x11, 0xD7, 0x13]), lambda: bytes([0xCC, 0x39, 0x39, 0xDD, at, 0x9D, at])])()
+                lambda: bytes([0x3B]), lambda: 0x7E, lambda: store(0x19, 0x11) + bytes([0x9D, 0x11, 0xD7, 0x13]),
+                lambda: bytes([0xCC, 0x39, 0x39, 0xDD, at, 0x9D, at])])()
         return r.choice([
             # the timer
             lambda: store(r.randrange(256), 0x08), lambda: store(r.choice([0x08, 0x0C, 0x1C, 0x1F, 0x04, 0x01]), 0x08), lambda: soon,
@@ -130,7 +131,8 @@ class Code:
             lambda: bytes([0x96, 0x11, 0xD6, 0x12, 0x96, 0x11]), lambda: bytes([0xD6, 0x12]), lambda: bytes([0x96, 0x11]),
             lambda: bytes([0x7F, 0, 0x11, 0x97, 0x13]) + store(2, 0x11),
             # ports, RAM control, any register
-            lambda: store(r.randrange(256), r.choice([0, 1, 2, 3, 0x14, 0x14])), lambda: store(r.choice([0x00, 0x40, 0x80, 0xC0]), 0x14), lambda: bytes([0x96, at]), lambda: bytes([0xD6, r.choice([2, 3, 0x14])]),
+            lambda: store(r.randrange(256), r.choice([0, 1, 2, 3, 0x14, 0x14])), lambda: store(r.choice([0x00, 0x40, 0x80, 0xC0]), 0x14),
+            lambda: bytes([0x96, at]), lambda: bytes([0xD6, r.choice([2, 3, 0x14])]),
             lambda: bytes([r.choice([0x70, 0x73, 0x74, 0x78, 0x7A, 0x7C, 0x7D, 0x7F, 0x7F]), 0, at]),
             lambda: bytes([0xCC, 0x39, 0x39, 0xDD, memory, 0x9D, memory]) if memory < self.read_only else bytes([0xDD, memory]),
             lambda: bytes([0xCE]) + big(at) + bytes([r.choice([0x60, 0x63, 0x64, 0x68, 0x6A, 0x6C, 0x6D, 0x6F]), 0]),
@@ -311,8 +313,11 @@ def spoiled(r, records):
 
 
 def made(r):
-    limit = r.randrange(3000000) if r.random() < 0.03 else r.choice([r.randrange(200), r.randrange(3000), r.randrange(20000), r.randrange(20000), r.randrange(150000) if r.random() < 0.3 else 500])
-    read_only = r.choice([65536, 65536, 57344, 0, r.randrange(65537), r.randrange(0x200, 0x300), r.randrange(0x100), r.choice([4, 5, 6, 7, 8, 15, 16, 0x20, 0x80, 0x81, 0xA0, 0xC0, 0xFF, 0x100])])
+    limit = r.randrange(3000000) if r.random() < 0.03 else r.choice(
+        [r.randrange(200), r.randrange(3000), r.randrange(20000), r.randrange(20000), r.randrange(150000) if r.random() < 0.3 else 500])
+    read_only = r.choice(
+        [65536, 65536, 57344, 0, r.randrange(65537), r.randrange(0x200, 0x300), r.randrange(0x100),
+         r.choice([4, 5, 6, 7, 8, 15, 16, 0x20, 0x80, 0x81, 0xA0, 0xC0, 0xFF, 0x100])])
     head = Code(r, limit, read_only).loads()
     p = r.random()
     if p < 0.01:

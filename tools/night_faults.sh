@@ -1,6 +1,6 @@
 #!/bin/bash
-# Faults at every system call of a first night, of a night with a log and of a recovery; clean-ups that are killed; two nights at once; a call that is
-# held while another night with other names commits. docs/NIGHT.md says what must hold.
+# What a night asks of the area's file; faults at every system call of a first night, of a night with a log and of a recovery; clean-ups that are killed; two
+# nights at once; a call that is held while another night with other names commits. docs/NIGHT.md says what must hold.
 #   bash tools/night_faults.sh        some minutes; prints how many faults and how many bad, and each bad one; status 1 where one is bad
 # Needs strace, python3, and `rt check night` done. It works in a fresh folder under TMPDIR. Where the kit's emulator runs the program, which is not on
 # x86-64, only calls of the program's own kinds are killed and failed: the emulator makes many of its own.
@@ -113,6 +113,33 @@ for f in image state state.rest output state.area log; do
     if cmp -s sets/one/$f sets/two/$f || cmp -s sets/two/$f sets/three/$f; then echo "two nights leave the same $f: nothing would show"; exit 2; fi
 done
 
+# The area's file: 33 where STATE stands without it, 12 for another length, after IMAGE's tests and before STATE's, and all files as they were. Without STATE a
+# missing area is zeros, and one that stands is taken: the ROM's first byte sent is the area's first and 1.
+unruly=0
+refuses() {                                                          # the number, and what makes set one so
+    back one; (cd d && eval "$2"); keep spoilt; cd d || exit 2
+    night "${call[@]}" >../out
+    [ "$(cat ../out)" = "refused $1" ] && same spoilt && [ ! -e state.night ] || { unruly=$((unruly + 1)); echo "bad: $2: $(cat ../out)"; }
+    cd ..
+}
+first() {                                                            # the area's first byte, and the first sent
+    back none; cd d || exit 2
+    head -c 128 /dev/zero | tr '\0' "$1" >state.area
+    night image evening 9000 61440 state output >../out
+    [ "$(head -c 1 output | od -An -tx1)" = " $2" ] || { unruly=$((unruly + 1)); echo "bad: an area of $1: $(cat ../out)"; }
+    cd ..
+}
+refuses 33 'rm state.area'
+refuses 33 'rm state.area; truncate -s 41 state'
+for size in 0 127 129; do refuses 12 "truncate -s $size state.area"; done
+refuses 12 'truncate -s 127 state.area; truncate -s 41 state'
+refuses 1 'truncate -s 65535 image; truncate -s 127 state.area'
+refuses 1 'truncate -s 65535 image; rm state.area'
+refuses 26 'truncate -s 41 state'
+first '\132' 5b
+first '\0' 01; (cd d && same one) || { unruly=$((unruly + 1)); echo "bad: an area of zeros is not a missing one"; }
+echo "the area's file: bad $unruly"
+
 call=(image evening 9000 61440 state output); faults first none none one
 call=(--log log image state.rest 14000 61440 state output); faults night one one two
 faults recovery half two three
@@ -154,4 +181,4 @@ if ! said '^refused 34' || ! grep -q '^night stop' ../second || [ -e state.done 
 fi
 [ "$(cat state.names)" = image2/output2/area2/log2 ] || { mixed=1; echo "bad: a held call: state.names"; }
 echo "a held call: bad $mixed"
-[ "$bad$worse$mixed" = 000 ]
+[ "$unruly$bad$worse$mixed" = 0000 ]

@@ -1,6 +1,7 @@
 // The area in single and leaping runs side by side: docs/CASES.md works the expected lines from 01, 02 and its readings.
 use bits::Flag;
 use boundary::Watch;
+use cabinet::Leapt;
 use cabinet::Ran;
 use counts::Cycles;
 use machine::Machine;
@@ -19,11 +20,13 @@ struct Start {
     sending: bool,
 }
 
-// How many bytes of the image, the area and the output a case lends, and N.
+// How many bytes of the image, the area, the output and the log a case lends, whether the log is asked for, and N.
 struct Lends {
     image: isize,
     area: isize,
     output: isize,
+    log: isize,
+    logs: bool,
     n: u32,
 }
 
@@ -172,7 +175,8 @@ fn show_changes(name: &[u8], at: u64, before: &[u8], after: &[u8]) {
 }
 
 // What a run reports, and what it left of all that was lent.
-fn show(r: Ran, code: &[u8], image: &[u8], area: &[u8], output: &[u8], log: &[u8]) {
+fn show(leapt: Leapt, code: &[u8], image: &[u8], area: &[u8], output: &[u8], log: &[u8]) {
+    let r = leapt.ran;
     let m = r.machine;
     let before = rom(code);
     let beside = outside();
@@ -184,67 +188,53 @@ fn show(r: Ran, code: &[u8], image: &[u8], area: &[u8], output: &[u8], log: &[u8
     show_changes(b" log[", 0, b"\xEE\xEE\xEE\xEE\xEE\xEE\xEE\xEE", log);
 }
 
-fn single(
+fn show_leaps(leaping: bool, leapt: Leapt) {
+    if leaping {
+        number(b" leaps ", leapt.leaps.0 as u64);
+    }
+}
+
+// Either run.
+fn run(
+    leaping: bool,
     code: &[u8],
     session: &[u8],
     m: Machine,
-    n: u32,
+    l: Lends,
     image: &mut [u8],
     area: &mut [u8],
     output: &mut [u8],
+    log: &mut [u8],
 ) {
-    let r = cabinet::run_single(image, area, m, session, n, output);
-    show(r, code, &image[..], &area[..], &output[..], b"");
+    let watch = Watch {
+        log: l.logs,
+        since: Cycles(0),
+    };
+    let leapt = cabinet::watch_either(leaping, image, area, m, session, l.n, watch, output, log);
+    show(leapt, code, &image[..], &area[..], &output[..], &log[..]);
+    show_leaps(leaping, leapt);
 }
 
-fn leaping(
-    code: &[u8],
-    session: &[u8],
-    m: Machine,
-    n: u32,
-    image: &mut [u8],
-    area: &mut [u8],
-    output: &mut [u8],
-) {
-    let l = cabinet::run_leaping(image, area, m, session, n, output);
-    let r = l.ran;
-    show(r, code, &image[..], &area[..], &output[..], b"");
-    number(b" leaps ", l.leaps.0 as u64);
-}
-
-fn singly(code: &[u8], session: &[u8], m: Machine, l: Lends) {
+// The same with what a case lends.
+fn lend(leaping: bool, code: &[u8], session: &[u8], m: Machine, l: Lends) {
     let mut image = rom(code);
     let mut area = outside();
     let mut output = [0xEEu8; 1];
+    let mut log = [0xEEu8; 8];
     let long = io::count(l.image, &image);
     let wide = io::count(l.area, &area);
     let room = io::count(l.output, &output);
-    single(
+    let rows = io::count(l.log, &log);
+    run(
+        leaping,
         code,
         session,
         m,
-        l.n,
+        l,
         &mut image[..long],
         &mut area[..wide],
         &mut output[..room],
-    );
-}
-
-fn by_leaps(code: &[u8], session: &[u8], m: Machine, l: Lends) {
-    let mut image = rom(code);
-    let mut area = outside();
-    let mut output = [0xEEu8; 1];
-    let long = io::count(l.image, &image);
-    let wide = io::count(l.area, &area);
-    let room = io::count(l.output, &output);
-    leaping(
-        code,
-        session,
-        m,
-        l.n,
-        &mut image[..long],
-        &mut area[..wide],
-        &mut output[..room],
+        &mut log[..rows],
     );
 }
 
@@ -256,9 +246,9 @@ fn both(title: &[u8], code: &[u8], session: &[u8], s: Start, l: Lends) {
     let start = started(m, s);
     io::write_all(1, title);
     io::write_all(1, b"\n  single ");
-    singly(code, session, start, l);
+    lend(false, code, session, start, l);
     io::write_all(1, b"\n  leaping");
-    by_leaps(code, session, start, l);
+    lend(true, code, session, start, l);
     io::write_all(1, b"\n");
 }
 
@@ -281,6 +271,8 @@ fn whole(n: u32) -> Lends {
         image: 65536,
         area: 128,
         output: 1,
+        log: 0,
+        logs: false,
         n: n,
     }
 }
@@ -384,49 +376,13 @@ fn waits() {
     both(b"a reset in a wait", &SLEEP, &RESET, off, whole(150));
 }
 
-// Either run with the log asked for: the case `NMI`.
-fn either(leaping: bool, m: Machine, area: &mut [u8], log: &mut [u8]) {
-    let mut image = rom(&STAY);
-    let mut output = [0xEEu8; 1];
-    let watch = Watch {
-        log: true,
-        since: Cycles(0),
-    };
-    let l = cabinet::watch_either(
-        leaping,
-        &mut image,
-        area,
-        m,
-        b"",
-        30,
-        watch,
-        &mut output,
-        log,
-    );
-    let r = l.ran;
-    show(r, &STAY, &image, &area[..], &output, &log[..]);
-}
-
-fn logging(leaping: bool, m: Machine, area: isize, log: isize) {
-    let mut beside = outside();
-    let mut rows = [0xEEu8; 8];
-    let wide = io::count(area, &beside);
-    let room = io::count(log, &rows);
-    either(leaping, m, &mut beside[..wide], &mut rows[..room]);
-}
-
+// The case `NMI` with the log asked for.
 fn logged(title: &[u8], area: isize, log: isize) {
-    let image = rom(&STAY);
-    let Power::On(m) = cabinet::power_on(&image, 65536) else {
-        return;
-    };
-    let start = started(m, entering(0x00F0, 65536));
-    io::write_all(1, title);
-    io::write_all(1, b"\n  single ");
-    logging(false, start, area, log);
-    io::write_all(1, b"\n  leaping");
-    logging(true, start, area, log);
-    io::write_all(1, b"\n");
+    let mut l = whole(30);
+    l.area = area;
+    l.log = log;
+    l.logs = true;
+    both(title, &STAY, b"", entering(0x00F0, 65536), l);
 }
 
 fn logs() {

@@ -3,7 +3,6 @@
 use Prim.Native.Nat.{ℕ, _≤_, _<_}
 use native.Mathlib.Omega.{arith}
 use mathlib.Core.Bool.{Bool, not}
-use mathlib.Core.List.{List}
 use mathlib.Core.Logic.{_↔_}
 use mathlib.Core.Path.{_≡_, refl, sym, ap, _∙_}
 use lib.Dec.{eqb}
@@ -13,41 +12,24 @@ use Rattle.laws.proofs.Conds.{picks, passes, cases}
 use Rattle.replies.specs.Replies.{Told}
 use Rattle.machine.specs.declared.Machine.{Machine}
 use Rattle.boundary.specs.World.{Lent, Terms}
-use Rattle.boundary.specs.Start.{ranOf}
 use Rattle.cabinet.specs.Answers.{answerOf}
-use Rattle.cabinet.proofs.Ends.{reply-most, end-cases}
-use Rattle.cabinet_theorems.proofs.Exactly.{fault-number, stop-number, reply-12}
+use Rattle.cabinet.proofs.Ends.{reply-most}
+use Rattle.cabinet_theorems.proofs.Exactly.{WrongArea, told-12, reply-12}
 use Rattle.asking.specs.Asking.{Given, gives, replies}
 use Rattle.saved.specs.Answers.{loadOf}
 use Rattle.board_results.specs.Results.{recordSize, unfitReply}
 use Rattle.board.specs.Board.{Buffers, Called, onLoad, runCall}
 use Rattle.board_theorems.proofs.Ends.{unfit-most, Fits, call-cases}
 
--- "that area is not 128 bytes, tested straight after 1"
-abbrev pub WrongArea : List ℕ → List ℕ → Type 0
-WrongArea image area = (length image ≡ 65536) × (length area ≡ 128 → ⊥)
-
--- 12 to a machine outside its ranges, and to a run
-unfit-12 : (image area : List ℕ) → (unfitReply image area ≡ 12) ↔ WrongArea image area
-unfit-12 image area = (
-  cases (λ (k : ℕ). k ≡ 12 → WrongArea image area) (not (eqb (length image) 65536)) (λ _ d. absurd (let z : ⊥ = omega arith in z))
+-- 12 to a machine outside its ranges
+unfit-12 : (l : Lent) → (unfitReply (l .image) (l .area) ≡ 12) ↔ WrongArea l
+unfit-12 l = (
+  cases (λ (k : ℕ). k ≡ 12 → WrongArea l) (not (eqb (length (l .image)) 65536)) (λ _ d. absurd (let z : ⊥ = omega arith in z))
       (λ e.
-      cases (λ (k : ℕ). k ≡ 12 → WrongArea image area) (not (eqb (length area) 128))
+      cases (λ (k : ℕ). k ≡ 12 → WrongArea l) (not (eqb (length (l .area)) 128))
       (λ f _. (eqb-true _ _ (not-false _ e), eqb-false _ _ (not-true _ f)))
       (λ _ d. absurd (let z : ⊥ = omega arith in z))),
   (λ h. passes _ _ (ap not (eq-eqb _ _ (h .0))) ∙ picks _ _ (ap not (ne-eqb _ _ (h .1)))),
-)
-
-answer-12 : (t : Terms) (m : Machine) (l : Lent) → (answerOf t m l .reply .number ≡ 12) ↔ WrongArea (l .image) (l .area)
-answer-12 t m l = (
-  end-cases t m l (λ x. x .reply .number ≡ 12 → WrongArea (l .image) (l .area))
-      (λ _ d. absurd (let z : ⊥ = omega arith in z))
-      (λ image area _. (image, area))
-      (λ _ _ d. absurd (let z : ⊥ = omega arith in z))
-      (λ _ _ _ d. absurd (let z : ⊥ = omega arith in z))
-      (λ _ f _ d. absurd (let h = fault-number f in let z : ⊥ = omega (arith, h .1) in z))
-      (λ _ _ d. stop-number (ranOf t m l .stop) d refl),
-  (λ h. ap (λ (r : Told). r .number) (reply-12 t m l .1 h)),
 )
 
 module _ (leaping : Bool) (t : Terms) (b : Buffers) where
@@ -90,13 +72,13 @@ module _ (leaping : Bool) (t : Terms) (b : Buffers) where
   Loads = (k : ℕ) → loadOf (b .machine) ≡ replies k → k ≡ 2
 
   -- 12: they do, the image is right and the area is not
-  pub number-12 : (call .number ≡ 12) ↔ (Fits leaping t b × Loads × WrongArea (b .lent .image) (b .lent .area))
+  pub number-12 : (call .number ≡ 12) ↔ (Fits leaping t b × Loads × WrongArea (b .lent))
   number-12 = (
-    call-cases leaping t b (λ c. c .number ≡ 12 → Fits leaping t b × Loads × WrongArea (b .lent .image) (b .lent .area))
+    call-cases leaping t b (λ c. c .number ≡ 12 → Fits leaping t b × Loads × WrongArea (b .lent))
         (λ _ e. absurd (let z : ⊥ = omega arith in z))
         (λ _ k low high _ e. absurd (let z : ⊥ = omega arith in z))
-        (λ h g e. (h, (λ k f. ap refusal (sym f ∙ g)), unfit-12 (b .lent .image) (b .lent .area) .0 e))
-        (λ h m g e. (h, (λ k f. ap refusal (sym f ∙ g)), answer-12 t m (b .lent) .0 e)),
+        (λ h g e. (h, (λ k f. ap refusal (sym f ∙ g)), unfit-12 (b .lent) .0 e))
+        (λ h m g e. (h, (λ k f. ap refusal (sym f ∙ g)), told-12 t m (b .lent) e)),
     (λ h. by (h .0) (h .1) (h .2) (loadOf (b .machine)) refl),
   )
     where
@@ -105,9 +87,9 @@ module _ (leaping : Bool) (t : Terms) (b : Buffers) where
       refusal (gives m) = 2
       refusal (replies k) = k
 
-      by : Fits leaping t b → Loads → WrongArea (b .lent .image) (b .lent .area) → (g : Given Machine) → loadOf (b .machine) ≡ g → call .number ≡ 12
-      by h l w (gives m) e = ap number (loaded h e) ∙ answer-12 t m (b .lent) .1 w
-      by h l w (replies k) e = ap number (loaded h (e ∙ ap replies (l k e))) ∙ unfit-12 (b .lent .image) (b .lent .area) .1 w
+      by : Fits leaping t b → Loads → WrongArea (b .lent) → (g : Given Machine) → loadOf (b .machine) ≡ g → call .number ≡ 12
+      by h l w (gives m) e = ap number (loaded h e) ∙ ap (λ (r : Told). r .number) (reply-12 t m (b .lent) .1 w)
+      by h l w (replies k) e = ap number (loaded h (e ∙ ap replies (l k e))) ∙ unfit-12 (b .lent) .1 w
 
   -- else a machine is loaded, and the number is the run's reply; or it is outside its ranges, and the number is 1, 12 or 2
   pub number-reply : (m : Machine) → Fits leaping t b → loadOf (b .machine) ≡ gives m → call .number ≡ answerOf t m (b .lent) .reply .number

@@ -1,7 +1,6 @@
 -- A run changes no byte that no write changes: "Any other address at or above R ignores writes", of the registers "the image bytes
 -- there are neither read nor written", and the area "follows R". R itself is kept. Assumes nothing.
 use Prim.Native.Nat.{ℕ, _+_, _≤_}
-use mathlib.Core.List.{List}
 use mathlib.Core.Path.{_≡_, refl, subst, _∙_}
 use mathlib.Core.Bool.{true, false, and-false}
 use lib.ListN.{getD}

@@ -2,9 +2,8 @@
 use Prim.Native.Nat.{ℕ, _-_, _≤_, _<_}
 use native.Mathlib.Omega.{arith}
 use native.Mathlib.Decide.{decLe}
-use mathlib.Core.Path.{_≡_, refl, ap, _∙_}
-use mathlib.Core.Bool.{Bool, true, false, not, _&&_, _||_, and-false}
-use mathlib.Core.List.{List}
+use mathlib.Core.Path.{_≡_, refl}
+use mathlib.Core.Bool.{Bool, true, false, not, and-false}
 use lib.Dec.{ltb, leb}
 use lib.ListN.{getD}
 use borrow.Author.Tests.{lt-ltb, le-ltb, le-leb, lt-leb, leb-true, ltb-true, not-true}
@@ -31,10 +30,7 @@ area-from rame at h = leb-true 128 at (both (leb 128 at) (ltb at 256) (both (not
 pub area-below : (rame : Bool) (at : ℕ) → inArea rame at ≡ true → at < 256
 area-below rame at h = ltb-true at 256 (both (leb 128 at) (ltb at 256) (both (not rame) (isRam at) h .1) .1)
 
--- with bit 6 clear the area stands in all of $80 to $FF; with bit 6 set, and at other addresses, it does not
-pub clear-area : (rame : Bool) (at : ℕ) → rame ≡ false → 128 ≤ at → at < 256 → inArea rame at ≡ true
-clear-area rame at e l h = rw (e) (in-ram at l h)
-
+-- with bit 6 set, and outside $80 to $FF, it does not
 pub set-no-area : (rame : Bool) (at : ℕ) → rame ≡ true → inArea rame at ≡ false
 set-no-area rame at e = rw e
 

@@ -176,13 +176,13 @@ reply-most asked m given =
     (λ p f e. let h = fault-most f in omega arith)
     (λ p e. stop-most (ranOf asked m given .stop))
 
--- with a right area those of refusals are at most 7
 pub stop-stops : (s : Stop) → stops (stopNumber s) ≡ true
 stop-stops stop.Limit = refl
 stop-stops stop.Undefined = refl
 stop-stops stop.Full = refl
 stop-stops stop.LogFull = refl
 
+-- with a right area those of refusals are at most 7
 pub refusal-most : (asked : Terms) (m : Machine) (given : Lent) → length (given .area) ≡ 128
     → let k = answerOf asked m given .reply .number in stops k ≡ false → k ≤ 7
 refusal-most asked m given right =

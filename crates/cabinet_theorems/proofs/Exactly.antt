@@ -1,4 +1,4 @@
--- 01's table of replies, row by row, and 02's 11: each reply of a public run is given exactly when the table says. Assumes nothing.
+-- 01's table of replies, row by row, and 02's 11 and 12: each reply of a public run is given exactly when the table says. Assumes nothing.
 use Prim.Native.Nat.{ℕ, _-_, _≤_, _<_}
 use native.Mathlib.Omega.{arith}
 use mathlib.Core.Path.{_≡_, refl, sym, ap, subst, _∙_}
@@ -67,6 +67,10 @@ outside m = ((λ f r. true≢false (sym (say-ranges (m .chip .bus) r) ∙ f)), b
     by true e h = absurd (h (ranges-say (m .chip .bus) e))
     by false e h = e
 
+-- the image is right and the area is not
+abbrev pub WrongArea : Lent → Type 0
+WrongArea l = (length (l .image) ≡ 65536) × (length (l .area) ≡ 128 → ⊥)
+
 module _ (asked : Terms) (m : Machine) (given : Lent) where
   -- the reply of both runs is this one
   abbrev Replies : Told → Type 0
@@ -95,19 +99,18 @@ module _ (asked : Terms) (m : Machine) (given : Lent) where
   )
 
   -- 12: "that area is not 128 bytes, tested straight after 1"
-  pub reply-12 : Replies (told 12 none) ↔ ((length (given .image) ≡ 65536) × (length (given .area) ≡ 128 → ⊥))
-  reply-12 = (
-    (λ e.
-        end-cases asked m given (λ x. x .reply .number ≡ 12 → (length (given .image) ≡ 65536) × (length (given .area) ≡ 128 → ⊥))
-        (λ l d. absurd (let z : ⊥ = omega arith in z))
-        (λ l k d. (l, k))
-        (λ l r d. absurd (let z : ⊥ = omega arith in z))
-        (λ l r h d. absurd (let z : ⊥ = omega arith in z))
-        (λ p f e d. absurd (let b = fault-number f in let z : ⊥ = omega (arith, b .1) in z))
-        (λ p s d. stop-number (ranOf asked m given .stop) d refl)
-        (number e)),
-    (λ h. refused-reply (end-refused asked m given (refuses-12 asked m given (h .0) (h .1)))),
-  )
+  pub told-12 : answerOf asked m given .reply .number ≡ 12 → WrongArea given
+  told-12 =
+      end-cases asked m given (λ x. x .reply .number ≡ 12 → WrongArea given)
+      (λ l d. absurd (let z : ⊥ = omega arith in z))
+      (λ l k d. (l, k))
+      (λ l r d. absurd (let z : ⊥ = omega arith in z))
+      (λ l r h d. absurd (let z : ⊥ = omega arith in z))
+      (λ p f e d. absurd (let b = fault-number f in let z : ⊥ = omega (arith, b .1) in z))
+      (λ p s d. stop-number (ranOf asked m given .stop) d refl)
+
+  pub reply-12 : Replies (told 12 none) ↔ WrongArea given
+  reply-12 = ((λ e. told-12 (number e)), (λ h. refused-reply (end-refused asked m given (refuses-12 asked m given (h .0) (h .1)))))
 
   -- 2: "the machine is outside its ranges"
   pub reply-2 : Replies (told 2 none) ↔ (Lengths given × (Ranges (m .chip .bus) → ⊥))

@@ -227,7 +227,7 @@ module _ (session : List ℕ) (watch : Watch) (n₁ n : ℕ) (m : Machine) (give
           let r = leaps-here log admitted l b stopped in
           (omega (arith, p, q, r .0), omega (arith, p, q, r .1)))
 
-      -- the same of what the calls return: a run's report, with the image, the output and the log that it leaves
+      -- the same of what the calls return: a run's report, with the memories, the output and the log that it leaves
       pub calls-resume : (r₁ r₂ r : Ran) (l₁ l₂ k : Lent) (log : List ℕ)
           → Single asked₁ m given r₁ l₁
           → Single (termsAfter (r₁ .used .0) (r₁ .cycles .0) asked) (r₁ .machine) (withLog (lentAfter watch (r₁ .sent .0) (r₁ .entries .0) l₁) log) r₂ l₂

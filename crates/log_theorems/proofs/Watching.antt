@@ -93,7 +93,7 @@ module _ (t : Terms) (m : Machine) (l : Lent) where
   pub log-unread : (log : List ℕ) → ranOf (logging false t) m (withLog l log) ≡ endedWith log (ranOf (logging false t) m l)
   log-unread log = beside false false log (λ a. absurd (false≢true a)) .ended (unlogged-stop t (startWorld m l)) .0
 
-  -- where it does not stop with 11, the run with the log is the run without it: stop, state, image and output
+  -- where it does not stop with 11, the run with the log is the run without it: stop, state, memories and output
   pub logged-ends : (ranOf (logging true t) m l .stop ≡ LogFull → ⊥) → ranOf (logging false t) m l ≡ endedWith (l .log) (ranOf (logging true t) m l)
   logged-ends n = beside true false (l .log) (λ a. absurd (false≢true a)) .ended n .0
 

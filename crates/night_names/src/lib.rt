@@ -118,7 +118,7 @@ pub fn with_name(names: &[u8], file: &[u8], buffer: &mut [u8]) -> usize
     night_arguments::joined(&front[..n], &file[at..], buffer)
 }
 
-// The names of a night without further files: the last parts of IMAGE and OUTPUT.
+// The names that every night's begin with: the last parts of IMAGE and OUTPUT.
 pub fn record_names(image: &[u8], output: &[u8], buffer: &mut [u8]) -> usize
     ensures { λ r. ⌜ Counts r (now (buffer .exit)) ⌝ }
     ensures { λ r. ⌜ take r (now (buffer .exit)) ≡ namesOf (now (image .entry)) (now (output .entry)) (length (now (buffer .entry))) ⌝ }

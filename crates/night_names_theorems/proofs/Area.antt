@@ -1,4 +1,5 @@
--- The area, STATE.area or a further file: it lies beside STATE, the names that a night commits along tell it, and it is none of the night's other files.
+-- The area, STATE.area or a further file: it lies beside STATE, the names that a night commits along tell it, and it is not IMAGE, STATE, OUTPUT, SESSION,
+-- STATE.rest or STATE.names.
 -- Assumes nothing.
 use Prim.Native.Nat.{ℕ, _+_, _≤_}
 use native.Mathlib.Omega.{arith}

@@ -55,10 +55,10 @@ strodeOf s c cycles instructions =
     (byInstructions cycles instructions)
     (s .inside && eqb instructions 0)
 
--- the run goes on the same from r and the image `after`, whatever else was lent
 abbrev pub withImage : Lent → List ℕ → Lent
 withImage l image = withMemories l (memories image (l .area))
 
+-- the run goes on the same from r and the image `after`, whatever else was lent
 abbrev pub Goes : Terms → State → List ℕ → State → List ℕ → Type 0
 Goes t s image r after = (l : Lent) → runOf t (worldOf s (withImage l image)) ≡ runOf t (worldOf r (withImage l after))
 

@@ -1,7 +1,6 @@
 -- `area_cases::show_changes` is safe and ends. Assumes nothing.
 use Prim.Native.Nat.{_≤_, _-_}
 use borrow.Author.Needs.{needs}
-use mathlib.Core.Logic.{⊎-elim}
 use mathlib.Core.Path.{_≡_}
 use lib.ListN.{length}
 use Rattle.area_cases.proofs.show_changes.Statement.{statement}

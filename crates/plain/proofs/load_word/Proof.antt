@@ -1,8 +1,9 @@
+use native.Mathlib.Nat.{le-trans}
 use borrow.Author.Needs.{needs}
 use Rattle.plain.proofs.Hopping.{is-made, is-left}
 use mathlib.Core.Path.{sym}
 use Rattle.chip.proofs.ActLaws.{after, ends}
-use Rattle.plain.proofs.Accesses.{alone, reads2}
+use Rattle.plain.proofs.Accesses.{reads2}
 use Rattle.chip.specs.Shapes.{loadsWord}
 use Rattle.plain.proofs.load_word.Statement.{statement}
 use Rattle.plain.proofs.load_word.Tie as tie
@@ -19,9 +20,9 @@ load-word-spec =
     (λ c κs. search needs)  -- word-requires
     (λ c κs. search needs)  -- loaded-word-requires
     (λ c. λ s. is-made _ _ _ _ _ _ (λ b area f r. after _ _ _ _
-    (reads2 _ _ _ _ (alone f
+    (reads2 _ _ _ _ (le-trans f
     (rw (c .before .before .before .before .before .address .ensures) at (c .before .before .before .before .if1 .left)))
-    (alone f
+    (le-trans f
     (rw (c .before .before .before .plus .ensures, c .before .before .before .before .before .address .ensures) at (c .before .before .if2 .left)))
     (rw (c .before .before .before .before .before .address .ensures) at (c .before .word .ensures)))
     (ends _ _ _ (sym (c .loaded-word .ensures))))))  -- returns-3

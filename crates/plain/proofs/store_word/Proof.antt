@@ -1,8 +1,9 @@
+use native.Mathlib.Nat.{le-trans}
 use borrow.Author.Needs.{needs}
 use Rattle.plain.proofs.Hopping.{is-made, is-left}
 use mathlib.Core.Path.{sym}
 use Rattle.chip.proofs.ActLaws.{after, ends}
-use Rattle.plain.proofs.Accesses.{alone, writes2}
+use Rattle.plain.proofs.Accesses.{writes2}
 use Rattle.chip.specs.Shapes.{storesWord}
 use Rattle.plain.proofs.store_word.Statement.{statement}
 use Rattle.plain.proofs.store_word.Tie as tie
@@ -23,9 +24,9 @@ store-word-spec =
     (λ c κs. search needs)  -- stored-word-requires
     (λ c. search needs)  -- same-length
     (λ c. is-made _ _ _ _ _ _ (λ b area f r. after _ _ _ _
-    (writes2 _ _ _ _ _ (alone f
+    (writes2 _ _ _ _ _ (le-trans f
     (c .before .before .before .before .before .before .before .before .before .before .before .before .before .if1 .left))
-    (alone f
+    (le-trans f
     (rw (c .before .before .before .before .before .before .before .before .before .before .before .before .before .before .plus .ensures) at
     (c .before .before .before .before .before .before .before .before .before .before .before .before .if2 .left)))
     (rw (
