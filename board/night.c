@@ -331,6 +331,48 @@ static void refuse(const struct wrong *w) {
     else printf(" record %llu\n", (unsigned long long)number_at(result + PLIRUZZA_AT_RECORD, 8));
 }
 
+/* The NMI's routine as a listing and back: INC $0081 has three bytes and 27 characters, RTI one byte and 20. */
+static int show_listing(void) {
+    uint8_t text[64], bytes[8], told[PLIRUZZA_ASSEMBLED];
+    memset(text, 0xEE, sizeof text);
+    memset(bytes, 0xEE, sizeof bytes);
+    uint32_t reply = pliruzza_list(image, sizeof image, 0xF200, 0xF203, text, sizeof text, told, PLIRUZZA_LISTED);
+    if (reply != 0) return 1;
+    size_t length = (size_t)number_at(told, 8);
+    printf("listing: %u, %u characters, the rest %s\n", (unsigned)reply, (unsigned)length, as_it_was(text + length, sizeof text - length));
+    fwrite(text, 1, length, stdout);
+    reply = pliruzza_assemble(text, length, bytes, sizeof bytes, told, sizeof told);
+    if (reply != 0) return 1;
+    size_t count = (size_t)number_at(told, 8);
+    printf("assembled: %u, at %04X", (unsigned)reply, (unsigned)number_at(told + 8, 8));
+    show_bytes("bytes", bytes, count);
+    printf(", the rest %s\n", as_it_was(bytes + count, sizeof bytes - count));
+    return 0;
+}
+
+/* A listing, or its text, with one thing wrong: the buffer stays as it was, and so does the result but for the line of 13 and 14. */
+static void refused(const char *call, uint32_t reply, const uint8_t *buffer, const uint8_t *told) {
+    printf("%s: %u%s", call, (unsigned)reply, untouched(buffer, 64) ? "" : " CHANGED");
+    if (untouched(told, PLIRUZZA_ASSEMBLED)) printf(" nothing written\n");
+    else printf(" line %u\n", (unsigned)number_at(told, 8));
+}
+
+static void refuse_list(size_t image_length, uint32_t last, size_t room, size_t told_length) {
+    uint8_t text[64], told[PLIRUZZA_ASSEMBLED];
+    memset(text, 0xEE, sizeof text);
+    memset(told, 0xEE, sizeof told);
+    uint32_t reply = pliruzza_list(image, image_length, 0xF200, last, text, room, told, told_length);
+    refused("listing", reply, text, told);
+}
+
+static void refuse_assemble(const char *text, size_t room, size_t told_length) {
+    uint8_t bytes[64], told[PLIRUZZA_ASSEMBLED];
+    memset(bytes, 0xEE, sizeof bytes);
+    memset(told, 0xEE, sizeof told);
+    uint32_t reply = pliruzza_assemble((const uint8_t *)text, strlen(text), bytes, room, told, told_length);
+    refused("assembling", reply, bytes, told);
+}
+
 static void ask(uint8_t opcode) {
     uint8_t answer[PLIRUZZA_ANSWER];
     uint32_t reply = pliruzza_ask(opcode, answer, sizeof answer);
@@ -365,5 +407,14 @@ int main(void) {
     ask(0x3E);
     ask(0xC6);
     ask(0x00);
+    if (show_listing()) return 1;
+    refuse_list(sizeof image, 0xF203, 47, 7);
+    refuse_list(65535, 0x10000, 46, 8);
+    refuse_list(sizeof image, 0x10000, 46, 8);
+    refuse_list(sizeof image, 0xF203, 46, 8);
+    refuse_assemble("F200  3B        RTI\n", 1, 15);
+    refuse_assemble("F200  3B        RTI\nF201  3b        rti\n", 2, 16);
+    refuse_assemble("F200  20 80     BRA  $F282\n", 2, 16);
+    refuse_assemble("F200  20 7F     BRA  $F281\n", 1, 16);
     return 0;
 }

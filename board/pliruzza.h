@@ -24,6 +24,10 @@
  *    9  a byte is to be sent and the output has no room
  *   11  an interrupt is to be entered and the log has no room for its row
  *   12  the area is not 128 bytes
+ *   13  a line of a listing's text is not of the published form, or does not follow on
+ *   14  a line's branch target is beyond its offset
+ *   22  the range goes past $FFFF or backward
+ *   23  the buffer for a listing or for its bytes is too short
  *   26  the saved machine is not 42 bytes
  *   27  the saved machine's version is not 1
  *   28  the saved machine's bytes stand for no machine
@@ -31,8 +35,8 @@
  *   30  the session has fewer records than were used
  *   31  the buffer for the rest of a session is too short
  *   36  a bit of `watch` is set that asks for nothing
- * They are tested in this order: 36, 29, 26, 27, 28, 1, 12, 2, 3, then the session from the front (4 to 7), 30, 31; at each step of a run 0, 9, 11, 8. A
- * call that returns 26 or above writes nothing.
+ * They are tested in this order: 36, 29, 26, 27, 28, 1, 12, 2, 3, then the session from the front (4 to 7), 30, 31; at each step of a run 0, 9, 11, 8; of a
+ * listing 29, 1, 22, 23; of its text 29, then line after line 13, 14, and 23. A call that returns 26 or above writes nothing.
  */
 #ifndef PLIRUZZA_H
 #define PLIRUZZA_H
@@ -48,7 +52,10 @@ enum {
     PLIRUZZA_IMAGE = 65536,   /* bytes of an image: the whole address space */
     PLIRUZZA_AREA = 128,      /* bytes of the area: $80 to $FF */
     PLIRUZZA_MACHINE = 42,    /* bytes of a saved machine (docs/FORMATS.md) */
-    PLIRUZZA_REST = 8         /* bytes of the result of the rest of a session */
+    PLIRUZZA_REST = 8,        /* bytes of the result of the rest of a session */
+    PLIRUZZA_LISTED = 8,      /* bytes of the result of a listing */
+    PLIRUZZA_LISTING = 1638400, /* characters that the longest listing has */
+    PLIRUZZA_ASSEMBLED = 16   /* bytes of the result of an assembly */
 };
 
 /* What the code writes, and where: the gate holds these lines to what the program crates/board_layout prints. */
@@ -161,6 +168,21 @@ uint32_t pliruzza_rest(const uint8_t *session, size_t session_length, size_t use
  *   12  JMP   13  JSR   14  BSR   15  RTS   16  RTI   17  SWI   18  WAI
  */
 uint32_t pliruzza_ask(uint8_t opcode, uint8_t *answer, size_t answer_length);
+
+/* The listing of the image's bytes from `first` to `last`, both included, as docs/LISTING.md publishes it: a line for each instruction or data byte, each
+ * ended by one LF, no 0 at the end. It goes to the front of `buffer`; bytes after it are unchanged.
+ * Returns 29, 1, 22 or 23, and leaves `buffer` and `result` as they were; else 0. The result, little-endian; bytes after it are unchanged:
+ *    0  how many characters the listing has (8)
+ */
+uint32_t pliruzza_list(const uint8_t *image, size_t image_length, uint32_t first, uint32_t last, uint8_t *buffer, size_t buffer_length, uint8_t *result,
+                       size_t result_length);
+
+/* The bytes of a listing's text, its bytes column not read. They go to the front of `buffer`; bytes after them are unchanged.
+ * Returns 29, 13, 14 or 23, and leaves `buffer` as it was; else 0. The result, little-endian; bytes after it are unchanged, and all of it by 29 and 23:
+ *    0  for 0 how many bytes there are, for 13 and 14 the line's number, counted from 1 (8)
+ *    8  for 0 the first line's address, 0 of an empty text (8)
+ */
+uint32_t pliruzza_assemble(const uint8_t *text, size_t text_length, uint8_t *buffer, size_t buffer_length, uint8_t *result, size_t result_length);
 
 #ifdef __cplusplus
 }

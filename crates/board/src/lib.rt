@@ -1,4 +1,5 @@
-// The C calls: power-on, the two runs, plain and watched, the question about one opcode and the rest of a session, over numbers and lent bytes.
+// The C calls: power-on, the two runs, plain and watched, the question about one opcode, the rest of a session, a listing and its bytes, over numbers and
+// lent bytes.
 // board/pliruzza.h declares them and says what each number and each byte means.
 use board_results::Counted;
 use boundary::Watch;
@@ -9,7 +10,9 @@ use saved::Loaded;
 ghost use mathlib.Core.Path.{_≡_};
 ghost use mathlib.Core.Bool.{true, false};
 ghost use Rattle.boundary.specs.World.{lent, lending, terms, watching};
-ghost use Rattle.board_calls.specs.Calls.{wrote, powerCall, askCall, rested, restCall};
+ghost use Rattle.board_results.specs.Returned.{returned};
+ghost use Rattle.board_calls.specs.Calls.{wrote, powerCall, askCall, restCall};
+ghost use Rattle.board_listing.specs.Calls.{listCall, assembleCall};
 ghost use Rattle.board.specs.Board.{countedOf, buffers, called, runCall, singleCall, leapingCall, watchCall};
 
 // Power-on into a saved machine.
@@ -37,10 +40,28 @@ pub extern "C" fn pliruzza_rest(
     buffer: &mut [u8],
     result: &mut [u8],
 ) -> u32
-    ensures { λ k. ⌜ rested k (now (buffer .exit)) (now (result .exit))
+    ensures { λ k. ⌜ returned k (now (buffer .exit)) (now (result .exit))
         ≡ restCall (now (session .entry)) used cycles (now (buffer .entry)) (now (result .entry)) ⌝ }
 {
     board_calls::rest(session, Records(used), Cycles(cycles), buffer, result)
+}
+
+// The listing of first to last, both included.
+#[no_mangle]
+pub extern "C" fn pliruzza_list(image: &[u8], first: u32, last: u32, buffer: &mut [u8], result: &mut [u8]) -> u32
+    ensures { λ k. ⌜ returned k (now (buffer .exit)) (now (result .exit))
+        ≡ listCall (now (image .entry)) first last (now (buffer .entry)) (now (result .entry)) ⌝ }
+{
+    board_listing::list(image, first, last, buffer, result)
+}
+
+// The bytes of a listing's text.
+#[no_mangle]
+pub extern "C" fn pliruzza_assemble(text: &[u8], buffer: &mut [u8], result: &mut [u8]) -> u32
+    ensures { λ k. ⌜ returned k (now (buffer .exit)) (now (result .exit))
+        ≡ assembleCall (now (text .entry)) (now (buffer .entry)) (now (result .entry)) ⌝ }
+{
+    board_listing::assemble(text, buffer, result)
 }
 
 // The counts of a run.

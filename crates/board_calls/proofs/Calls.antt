@@ -26,7 +26,9 @@ use Rattle.rest.specs.declared.Rested.{Rested}
 use Rattle.rest.specs.declared.Rested.the-variants.{Bad}
 use Rattle.rest.specs.Answers.{toldRest, restAnswer, restBuffer}
 use Rattle.board_numbers.specs.Numbers.{instructionBytes}
-use Rattle.board_calls.specs.Calls.{wrote, onPower, powerCall, onAsk, askCall, rested, namedIn, onRest, restCall}
+use Rattle.board_results.specs.Returned.{returned, namedIn}
+use Rattle.board_results.proofs.Returned.{returned-told}
+use Rattle.board_calls.specs.Calls.{wrote, onPower, powerCall, onAsk, askCall, onRest, restCall}
 
 -- power-on
 module _ (image : List ℕ) (r : ℕ) (machine : List ℕ) where
@@ -62,7 +64,7 @@ module _ (opcode : ℕ) (answer : List ℕ) where
 
 -- the rest of a session
 module _ (session : List ℕ) (used cycles : ℕ) (buffer result : List ℕ) where
-  pub rest-short : length result < 8 → rested 29 buffer result ≡ restCall session used cycles buffer result
+  pub rest-short : length result < 8 → returned 29 buffer result ≡ restCall session used cycles buffer result
   unfolding restCall
   rest-short h = sym (picks _ _ (lt-ltb _ _ h))
 
@@ -74,16 +76,11 @@ module _ (session : List ℕ) (used cycles : ℕ) (buffer result : List ℕ) whe
       ap (λ (left : List ℕ). onRest left result (toldRest b)) (e .1)
       ∙ sym (passes _ _ (le-ltb _ _ h) ∙ ap (onRest (restBuffer session used cycles buffer) result) (sym (e .0) ∙ ap toldRest f))
 
--- a number told in the result
-pub rest-told : (left result : List ℕ) (n j : ℕ) {k : ℕ} {r : List ℕ} → (k ≡ j) × (r ≡ namedIn (some n) result)
-    → rested k left r ≡ rested j left (namedIn (some n) result)
-rest-told left result n j {k} {r} e = λ i. rested (e .0 i) left (e .1 i)
-
--- a session's fault told there
+-- a session's fault told in the result
 pub rest-refused : (left result : List ℕ) (f : Fault) (refusal : Reply) {n j k : ℕ} {r : List ℕ} → toldReply refusal ≡ toldFault f
     → n ≡ toldReply refusal .number → j ≡ Option·getD (toldReply refusal .named) 0 → (k ≡ n) × (r ≡ namedIn (some j) result)
-    → rested k left r ≡ onRest left result (toldRest (Bad f))
+    → returned k left r ≡ onRest left result (toldRest (Bad f))
 rest-refused left result f refusal {n} {j} t p q e =
-    rest-told left result j n e
-    ∙ ap (λ (n : ℕ). rested n left (namedIn (some j) result)) (p ∙ ap (λ (x : Told). x .number) t)
-    ∙ ap (λ (j : ℕ). rested (faultNumber f) left (namedIn (some j) result)) (q ∙ ap (λ (x : Told). Option·getD (x .named) 0) t)
+    returned-told left result j n e
+    ∙ ap (λ (n : ℕ). returned n left (namedIn (some j) result)) (p ∙ ap (λ (x : Told). x .number) t)
+    ∙ ap (λ (j : ℕ). returned (faultNumber f) left (namedIn (some j) result)) (q ∙ ap (λ (x : Told). Option·getD (x .named) 0) t)

@@ -4,10 +4,10 @@
 use Prim.Native.Nat.{ℕ}
 use mathlib.Core.Bool.{cond}
 use mathlib.Core.List.{List}
-use mathlib.Core.Option.{Option, none, some}
+use mathlib.Core.Option.{some}
 use lib.Dec.{eqb, ltb}
 use lib.ListN.{length}
-use Rattle.numbers.specs.Numbers.{littleEndian, over}
+use Rattle.numbers.specs.Numbers.{over}
 use Rattle.opcodes.specs.declared.Instruction.{Instruction}
 use Rattle.machine.specs.declared.Machine.{Machine}
 use Rattle.asking.specs.Asking.{Given, gives, replies, opcodeAnswer}
@@ -15,6 +15,7 @@ use Rattle.power.specs.Power.{powerAnswer}
 use Rattle.saved.specs.Layout.{savedOf}
 use Rattle.rest.specs.Answers as rest
 use Rattle.board_numbers.specs.Numbers.{instructionBytes}
+use Rattle.board_results.specs.Returned.{Returned, returned, namedIn}
 
 -- what power-on and the question about an opcode return, and the one buffer that each is lent to write
 pub record Wrote : Type 0 where
@@ -40,26 +41,13 @@ onAsk answer (replies k) = wrote k answer
 unfoldable pub askCall : ℕ → List ℕ → Wrote
 askCall opcode answer = cond (ltb (length answer) 6) (wrote 29 answer) (onAsk answer (opcodeAnswer opcode))
 
--- what the rest of a session returns, and the two buffers that it is lent to write
-pub record Rest : Type 0 where
-  pub number : ℕ
-  pub rest : List ℕ
-  pub result : List ℕ
-
-abbrev pub rested : ℕ → List ℕ → List ℕ → Rest
-rested number rest result = record { number = number; rest = rest; result = result }
-
 -- the result's 8 bytes tell the rest's length, or the record that 4 to 7 name
-abbrev pub namedIn : Option ℕ → List ℕ → List ℕ
-namedIn none result = result
-namedIn (some k) result = over (littleEndian 8 k) result
-
-abbrev pub onRest : List ℕ → List ℕ → rest.RestReply → Rest
-onRest buffer result (rest.restWrote length) = rested 0 buffer (over (littleEndian 8 length) result)
-onRest buffer result (rest.refuses t) = rested (t .number) buffer (namedIn (t .named) result)
+abbrev pub onRest : List ℕ → List ℕ → rest.RestReply → Returned
+onRest buffer result (rest.restWrote length) = returned 0 buffer (namedIn (some length) result)
+onRest buffer result (rest.refuses t) = returned (t .number) buffer (namedIn (t .named) result)
 
 -- the rest of a session: 29 where the result has less than 8 bytes; then 4 to 7, 30 or 31, or 0 and the rest
-unfoldable pub restCall : List ℕ → ℕ → ℕ → List ℕ → List ℕ → Rest
+unfoldable pub restCall : List ℕ → ℕ → ℕ → List ℕ → List ℕ → Returned
 restCall session used cycles buffer result =
-    cond (ltb (length result) 8) (rested 29 buffer result)
+    cond (ltb (length result) 8) (returned 29 buffer result)
     (onRest (rest.restBuffer session used cycles buffer) result (rest.restAnswer session used cycles buffer))

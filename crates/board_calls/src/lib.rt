@@ -6,10 +6,8 @@ use machine::Power;
 use opcodes::Decoded;
 use rest::Rested;
 ghost use mathlib.Core.Path.{_≡_};
-ghost use mathlib.Core.Option.{some};
-ghost use Prim.Native.Nat.{_≤_};
-ghost use lib.ListN.{length};
-ghost use Rattle.board_calls.specs.Calls.{wrote, powerCall, askCall, namedIn, rested, restCall};
+ghost use Rattle.board_results.specs.Returned.{returned};
+ghost use Rattle.board_calls.specs.Calls.{wrote, powerCall, askCall, restCall};
 
 // Power-on into a saved machine.
 pub fn power_on(image: &[u8], r: u32, machine: &mut [u8]) -> u32
@@ -47,15 +45,6 @@ pub fn ask(opcode: u8, answer: &mut [u8]) -> u32
     }
 }
 
-// A number in the result of a reply, which is returned.
-fn tell(reply: u32, number: usize, result: &mut [u8]) -> u32
-    requires { ⌜ 8 ≤ length (now result) ⌝ }
-    ensures { λ r. ⌜ (r ≡ reply) × (now (result .exit) ≡ namedIn (some number) (now (result .entry))) ⌝ }
-{
-    numbers::put(&mut result[0..8], number as u64);
-    reply
-}
-
 // The rest of a session, of which so many records were used in so many cycles.
 pub fn rest(
     session: &[u8],
@@ -64,7 +53,7 @@ pub fn rest(
     buffer: &mut [u8],
     result: &mut [u8],
 ) -> u32
-    ensures { λ k. ⌜ rested k (now (buffer .exit)) (now (result .exit))
+    ensures { λ k. ⌜ returned k (now (buffer .exit)) (now (result .exit))
         ≡ restCall (now (session .entry)) (used .0) (cycles .0) (now (buffer .entry)) (now (result .entry)) ⌝ }
 {
     if result.len() < 8 {
@@ -72,12 +61,12 @@ pub fn rest(
     }
     let left = rest::rest(session, used, cycles, buffer);
     match left {
-        Rested::Written(length) => tell(0, length, result),
+        Rested::Written(length) => board_results::tell(0, length, result),
         Rested::Bad(fault) => {
             let refusal = replies::refusal(fault);
             let number = refusal.number() as u32;
             let named = refusal.record();
-            tell(number, named, result)
+            board_results::tell(number, named, result)
         }
         Rested::TooFew => 30,
         Rested::NoRoom => 31,

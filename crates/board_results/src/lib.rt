@@ -1,4 +1,5 @@
-// The result record of a run, in bytes that the caller lends: the reply, the counts, and the record that a refusal names.
+// The result record of a run, in bytes that the caller lends: the reply, the counts, and the record that a refusal names. And one number told in the
+// result of a call that runs nothing.
 use counts::Cycles;
 use counts::Entries;
 use counts::Instructions;
@@ -7,12 +8,13 @@ use counts::Records;
 use counts::Sent;
 use replies::Reply;
 ghost use mathlib.Core.Path.{_≡_};
-ghost use mathlib.Core.Option.{none};
+ghost use mathlib.Core.Option.{none, some};
 ghost use Prim.Native.Nat.{_≤_};
 ghost use lib.ListN.{length};
 ghost use Rattle.numbers.specs.Numbers.{over};
 ghost use Rattle.replies.specs.Replies.{told, toldReply};
 ghost use Rattle.board_results.specs.Results.{toldCounts, noCounts, headBytes, resultBytes, withLeaps, recordSize, recordBytes, unfitReply};
+ghost use Rattle.board_results.specs.Returned.{namedIn};
 
 // The counts that both runs report.
 pub struct Counted {
@@ -109,4 +111,13 @@ pub fn refuse(leaping: bool, number: u32, result: &mut [u8])
         sent: Sent(0),
     };
     record(leaping, number, 0, none, Leaps(0), result);
+}
+
+// A number in the result of a reply, which is returned.
+pub fn tell(reply: u32, number: usize, result: &mut [u8]) -> u32
+    requires { ⌜ 8 ≤ length (now result) ⌝ }
+    ensures { λ r. ⌜ (r ≡ reply) × (now (result .exit) ≡ namedIn (some number) (now (result .entry))) ⌝ }
+{
+    numbers::put(&mut result[0..8], number as u64);
+    reply
 }

@@ -17,7 +17,8 @@ use Rattle.session.specs.declared.Checked.the-variants.{Sound, Bad}
 use Rattle.replies.specs.Replies.{Told, told, toldFault, toldCheck}
 use Rattle.rest.specs.Rest.{hasFewer, restOf}
 use Rattle.rest.specs.Answers.{firstOf, answerBy, bufferBy, restRefusal, restAnswer, restBuffer}
-use Rattle.board_calls.specs.Calls.{Rest, rested, namedIn, onRest, restCall}
+use Rattle.board_results.specs.Returned.{Returned, returned, namedIn}
+use Rattle.board_calls.specs.Calls.{onRest, restCall}
 
 fault-most : (f : Fault) → faultNumber f ≤ 9
 fault-most (Length k) = omega arith
@@ -29,7 +30,7 @@ module _ (session : List ℕ) (used cycles : ℕ) (buffer result : List ℕ) whe
   abbrev rest : List ℕ
   rest = restOf session used cycles
 
-  abbrev answered : Option Told → Rest
+  abbrev answered : Option Told → Returned
   answered o = onRest (bufferBy o rest buffer) result (answerBy o rest)
 
   -- the refusal of a sound session, where there is one
@@ -37,8 +38,8 @@ module _ (session : List ℕ) (used cycles : ℕ) (buffer result : List ℕ) whe
   soundly = cond (hasFewer session used) (some (told 30 none)) (cond (ltb (length buffer) (length rest)) (some (told 31 none)) none)
 
   -- each way that the call can end
-  rest-cases : (P : Rest → Type 0)
-      → P (rested 29 buffer result)
+  rest-cases : (P : Returned → Type 0)
+      → P (returned 29 buffer result)
       → ((t : Told) → (t .number ≤ 9) ⊎ (t .named ≡ none) → P (answered (some t)))
       → P (answered none)
       → P (restCall session used cycles buffer result)
@@ -51,12 +52,12 @@ module _ (session : List ℕ) (used cycles : ℕ) (buffer result : List ℕ) whe
           (λ _. cases (λ (o : Option Told). P (answered o)) (ltb (length buffer) (length rest)) (λ _. refused (told 31 none) (inr refl)) (λ _. done))
       by (Bad f) = refused (toldFault f) (inl (fault-most f))
 
-  pub rest-kept : let c = restCall session used cycles buffer result in 1 ≤ c .number → c .rest ≡ buffer
-  rest-kept = rest-cases (λ c. 1 ≤ c .number → c .rest ≡ buffer) (λ p. refl) (λ t h p. refl) (λ p. absurd (let z : ⊥ = omega arith in z))
+  pub rest-kept : let c = restCall session used cycles buffer result in 1 ≤ c .number → c .buffer ≡ buffer
+  rest-kept = rest-cases (λ c. 1 ≤ c .number → c .buffer ≡ buffer) (λ p. refl) (λ t h p. refl) (λ p. absurd (let z : ⊥ = omega arith in z))
 
-  pub rest-writes-nothing : let c = restCall session used cycles buffer result in 26 ≤ c .number → (c .rest ≡ buffer) × (c .result ≡ result)
+  pub rest-writes-nothing : let c = restCall session used cycles buffer result in 26 ≤ c .number → (c .buffer ≡ buffer) × (c .result ≡ result)
   rest-writes-nothing =
-      rest-cases (λ c. 26 ≤ c .number → (c .rest ≡ buffer) × (c .result ≡ result))
+      rest-cases (λ c. 26 ≤ c .number → (c .buffer ≡ buffer) × (c .result ≡ result))
       (λ p. (refl, refl))
       (λ t h p. ⊎-elim (λ low. absurd (let z : ⊥ = omega arith in z)) (λ e. (refl, ap (λ (o : Option ℕ). namedIn o result) e)) h)
       (λ p. absurd (let z : ⊥ = omega arith in z))

@@ -4,7 +4,9 @@ use mathlib.Core.Bool.{Bool}
 use mathlib.Core.List.{List}
 use mathlib.Core.Path.{_≡_, sym, ap, _∙_}
 use Rattle.boundary.specs.World.{Terms}
-use Rattle.board_calls.specs.Calls.{Wrote, wrote, powerCall, askCall, Rest, rested, restCall}
+use Rattle.board_results.specs.Returned.{returned}
+use Rattle.board_results.proofs.Returned.{same-returned}
+use Rattle.board_calls.specs.Calls.{Wrote, wrote, powerCall, askCall, restCall}
 use Rattle.board.specs.Board.{Buffers, Called, called, singleCall, leapingCall, watchCall}
 
 same-wrote : (w : Wrote) {j k : ℕ} {a b : List ℕ} → wrote j a ≡ w → wrote k b ≡ w → (j ≡ k) × (a ≡ b)
@@ -34,8 +36,7 @@ pub watch-settled : (leaping : Bool) (session : List ℕ) (n bits since : ℕ) (
 watch-settled leaping session n bits since l = same-called (watchCall leaping session n bits since l)
 
 pub rest-settled : (session : List ℕ) (used cycles : ℕ) (buffer result : List ℕ) {j k : ℕ} {a b r s : List ℕ}
-    → rested j a r ≡ restCall session used cycles buffer result
-    → rested k b s ≡ restCall session used cycles buffer result
+    → returned j a r ≡ restCall session used cycles buffer result
+    → returned k b s ≡ restCall session used cycles buffer result
     → (j ≡ k) × (a ≡ b) × (r ≡ s)
-rest-settled session used cycles buffer result p q =
-    let e = p ∙ sym q in (ap (λ (x : Rest). x .number) e, ap (λ (x : Rest). x .rest) e, ap (λ (x : Rest). x .result) e)
+rest-settled session used cycles buffer result = same-returned (restCall session used cycles buffer result)

@@ -1,18 +1,11 @@
 -- A line of text in ASCII, and numbers as text.
 use Prim.Native.Nat.{ℕ, zero, suc, _+_, _/_, _%_}
-use Prim.Native.Char.{code}
-use Prim.Native.String.{String}
-use Prim.Native.String as string
 use mathlib.Core.List.{List, [], _∷_, _++_}
 use mathlib.Core.Bool.{cond}
 use lib.ListN.{set, take, replicate}
 use lib.Dec.{ltb}
 use Rattle.printing.specs.declared.Line.{Line}
-
--- a text's codes
-abbrev pub ascii : String → List ℕ
-ascii string.[] = []
-ascii (string._∷_ c s) = code c ∷ ascii s
+pub use Rattle.characters.specs.Characters.{ascii, digitOf, hexadecimalOf}
 
 abbrev pub emptyLine : Line
 emptyLine = record { bytes = replicate 256 0; length = 0 }
@@ -29,10 +22,6 @@ putsOf l (b ∷ bs) = putsOf (putOf l b) bs
 abbrev pub shown : Line → List ℕ
 shown l = take (l .length) (l .bytes)
 
--- the sign of a digit: 0 to 9, then A to F
-abbrev pub digitOf : ℕ → ℕ
-digitOf d = cond (ltb d 10) (48 + d) (55 + d)
-
 -- "in decimal": as few digits as hold the number, at most so many
 unfoldable pub decimalFrom : ℕ → ℕ → List ℕ
 decimalFrom zero n = []
@@ -41,8 +30,3 @@ decimalFrom (suc k) n = cond (ltb n 10) [] (decimalFrom k (n / 10)) ++ (digitOf 
 -- 20 digits hold every number below 2^64
 abbrev pub decimalOf : ℕ → List ℕ
 decimalOf n = decimalFrom 20 n
-
--- "in hexadecimal": so many digits
-abbrev pub hexadecimalOf : ℕ → ℕ → List ℕ
-hexadecimalOf zero n = []
-hexadecimalOf (suc k) n = hexadecimalOf k (n / 16) ++ (digitOf (n % 16) ∷ [])

@@ -1,20 +1,13 @@
 // A line of text: words, decimal and hexadecimal numbers put one after the other.
+use characters::digit;
 ghost use mathlib.Core.Path.{_≡_};
 ghost use Prim.Native.Nat.{_<_};
-ghost use Rattle.printing.specs.Printing.{emptyLine, putOf, putsOf, digitOf, decimalOf, hexadecimalOf};
+ghost use Rattle.printing.specs.Printing.{emptyLine, putOf, putsOf, decimalOf, hexadecimalOf};
 
 // The first `length` bytes are the text; the 256th begins it anew.
 pub struct Line {
     pub bytes: [u8; 256],
     pub length: u8,
-}
-
-// The sign of a digit below 16.
-fn digit(d: u8) -> u8
-    requires { ⌜ d < 16 ⌝ }
-    ensures { λ r. ⌜ r ≡ digitOf d ⌝ }
-{
-    if d < 10 { 48 + d } else { 55 + d }
 }
 
 fn write_first(bytes: &[u8; 256], k: usize)

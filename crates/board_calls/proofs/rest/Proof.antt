@@ -1,7 +1,8 @@
 -- `board_calls::rest` meets its contract: each way that the call can end is a law of Calls. Assumes nothing.
 use mathlib.Core.Path.{_∙_}
 use borrow.Author.Needs.{needs}
-use Rattle.board_calls.proofs.Calls.{rest-short, rest-left, rest-told, rest-refused}
+use Rattle.board_results.proofs.Returned.{returned-told}
+use Rattle.board_calls.proofs.Calls.{rest-short, rest-left, rest-refused}
 use Rattle.board_calls.proofs.rest.Statement.{statement}
 use Rattle.board_calls.proofs.rest.Tie as tie
 
@@ -28,7 +29,7 @@ rest-spec =
     (λ c.
     let k = c .before .before .before .before .before in
     let a = k .before .before .before .before .before .before .before .before .before .before .args in
-    rest-told _ (a .result .now) _ _ (c .before .before .tell .ensures)
+    returned-told _ (a .result .now) _ _ (c .before .before .tell .ensures)
     ∙ rest-left (a .session .now) (a .used .0) (a .cycles .0) (a .buffer .now) (a .result .now) _
     (k .before .before .before .before .before .before .if1 .left) (k .before .before .before .before .rest .ensures) (k .left .given .1))  -- returns-2
     (λ c. search needs)  -- same-length-3

@@ -1,0 +1,4 @@
+pub mod Begins
+pub mod Says
+pub mod Unbroken
+pub mod Whole

@@ -1,0 +1,11 @@
+pub mod Known
+pub mod Digits
+pub mod Back
+pub mod Item
+pub mod RoundTrip
+pub mod Shows
+pub mod Append
+pub mod Columns
+pub mod Worked
+pub mod Listed
+pub mod Assembled

@@ -1,0 +1,1 @@
+// Theorems alone: a line read back, a whole listing assembled again, and when a text is refused.
