@@ -48,7 +48,13 @@ pub extern "C" fn pliruzza_rest(
 
 // The listing of first to last, both included.
 #[no_mangle]
-pub extern "C" fn pliruzza_list(image: &[u8], first: u32, last: u32, buffer: &mut [u8], result: &mut [u8]) -> u32
+pub extern "C" fn pliruzza_list(
+    image: &[u8],
+    first: u32,
+    last: u32,
+    buffer: &mut [u8],
+    result: &mut [u8],
+) -> u32
     ensures { λ k. ⌜ returned k (now (buffer .exit)) (now (result .exit))
         ≡ listCall (now (image .entry)) first last (now (buffer .entry)) (now (result .entry)) ⌝ }
 {
