@@ -1,4 +1,4 @@
-# What measure.sh and growth.sh share: building, making an input, running a program and counting the instructions it executes.
+# What measure.sh, growth.sh and listings.sh share: building, making an input, running a program and counting the instructions it executes.
 # Needs Debian's qemu-user (with plugins) and a C compiler; off x86-64 also gcc-x86-64-linux-gnu. `rt check bench` comes first.
 here=$(cd "$(dirname "$0")" && pwd)
 root=$(dirname "$here")
@@ -12,8 +12,12 @@ plain="$work/emulator"
 
 build() {
   [ -x "$root/target/bin/bench" ] || { echo "target/bin/bench is missing: rt check bench" >&2; exit 1; }
-  mkdir -p "$work"
+  build_counter
   $compiler -std=c11 -O2 -static -o "$work/emulator" "$here/emulator.c"
+}
+
+build_counter() {
+  mkdir -p "$work"
   cc -O2 -shared -fPIC -o "$work/libicount.so" "$here/icount.c"
 }
 

@@ -1,9 +1,9 @@
 #!/bin/bash
 # How listing and assembling grow: x86-64 instructions executed, from a program's start to its end, on the last bytes of an image of pseudo-random bytes.
-#   rt check bench lister assembler && bash benchmarks/listings.sh
+#   rt check lister assembler && bash benchmarks/listings.sh
 set -eu
 . "$(dirname "$0")/common.sh"
-build
+build_counter
 row() { printf '%-10s %8s %8s %14s %14s\n' "$@"; }
 python3 - "$work/image" <<'PYTHON'
 import sys

@@ -59,9 +59,9 @@ fn list_file(name: &[u8], first: u32, last: u32) {
     list(&image[..n], first, last);
 }
 
-// The number that an argument of at most eight digits is.
+// The number that an argument of at most 16 characters is.
 fn number_at(i: usize) -> Number {
-    let mut text = [0u8; 8];
+    let mut text = [0u8; 16];
     let n = os::arg(i, &mut text);
     listing_arguments::hexadecimal(&text[..n])
 }
