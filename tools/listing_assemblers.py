@@ -1,12 +1,13 @@
 #!/usr/bin/env python3
-"""Has other assemblers assemble our listings: dasm and crasm of Debian (apt-get install dasm crasm).
+"""Puts listings through two assemblers of other hands, Debian's dasm and crasm, and compares the bytes.
 
-    rt check lister && python3 tools/listing_assemblers.py [IMAGES]
+    python3 tools/listing_assemblers.py [RANGES [SEED]]     prints for each assembler the opcodes or ranges, the bytes and how many ranges differ
 
-Lists the 220 defined opcodes, and then as many images of random bytes as are asked for (100), cuts columns 15 on, puts a prelude of two lines before them, writes FCB
-as each assembler has it, and compares the bytes. Two things that both do otherwise are kept out of the images: an extended operand below $0100, which they shorten
-where the opcode has a direct twin (so no byte is 0), and a branch across $FFFF (so the ranges keep away from both ends). Prints the figures; status 1 where bytes
-differ."""
+Needs dasm and crasm (apt-get install dasm crasm), and `rt check lister` done. Status 1 where a range differs. From each line of a listing columns 15
+on are taken, behind a prelude that names the processor, FCB and the first address. First every opcode once; then so many random ranges of random
+images (300). Two things are known to differ, so a random image is mended before: an extended operand below $0100 of an opcode that has a direct twin,
+which both assemblers shorten, gets the high byte 01; a branch across $FFFF gets the offset FE. The last lines count what both make of those.
+"""
 import pathlib
 import random
 import subprocess
@@ -14,77 +15,118 @@ import sys
 import tempfile
 
 ROOT = pathlib.Path(__file__).resolve().parent.parent
-UNDEFINED = bytes.fromhex("00 02 03 12 13 14 15 18 1A 1C 1D 1E 1F 41 42 45 4B 4E 51 52 55 5B 5E 61 62 65 6B 71 72 75 7B 87 8F C7 CD CF")
-WIDE = bytes.fromhex("83 8C 8E C3 CC CE")
+WORDS = subprocess.run(["sh", ROOT / "tools/launch.sh", "--words"], check=True, capture_output=True, text=True).stdout.split()
+FOLDER = tempfile.TemporaryDirectory()
+ROOM = pathlib.Path(FOLDER.name)
+PRELUDE = {
+    "dasm": " processor 6803\n mac FCB\n dc.b {1}\n endm\n org $%04X\n",
+    "crasm": " cpu 6803\n output scode\nFCB macro\n db \\1\n endm\n * = $%04X\n",
+}
 
 
-def length(opcode):
-    """By the rows of the sheet's table 13."""
-    row = opcode >> 4
-    if row in (0x0, 0x1, 0x3, 0x4, 0x5):
-        return 1
-    return 3 if row in (0x7, 0xB, 0xF) or opcode in WIDE else 2
+def listed(image, first, last):
+    (ROOM / "image").write_bytes(image)
+    call = [*WORDS, ROOT / "target/bin/lister", ROOM / "image", f"{first:X}", f"{last:X}"]
+    return subprocess.run(call, check=True, capture_output=True, text=True).stdout.splitlines()
 
 
-def listing(folder, image, first, last):
-    (folder / "image").write_bytes(image)
-    words = subprocess.run(["sh", str(ROOT / "tools/launch.sh"), "--words"], check=True, capture_output=True, text=True).stdout.split("\n")[:-1]
-    command = words + [str(ROOT / "target/bin/lister"), str(folder / "image"), f"{first:X}", f"{last:X}"]
-    return subprocess.run(command, check=True, capture_output=True, text=True).stdout.splitlines()
+def dasm(text):
+    (ROOM / "d.asm").write_text(text)
+    ran = subprocess.run(["dasm", "d.asm", "-f3", "-od.bin"], cwd=ROOM, capture_output=True)
+    return (ROOM / "d.bin").read_bytes() if ran.returncode == 0 else b""
 
 
-def by_dasm(folder, first, statements):
-    text = ["\tprocessor hd6303", f"\torg ${first:04X}"] + [s.replace("FCB ", "dc.b") for s in statements]
-    (folder / "d.asm").write_text("\n".join(text) + "\n")
-    subprocess.run(["dasm", "d.asm", "-f3", "-od.bin"], cwd=folder, check=True, capture_output=True)
-    return (folder / "d.bin").read_bytes()
+def crasm(text):
+    """The data of the S records, one after the other."""
+    (ROOM / "c.asm").write_text(text)
+    (ROOM / "c.s").unlink(missing_ok=True)
+    subprocess.run(["crasm", "-o", "c.s", "c.asm"], cwd=ROOM, capture_output=True)
+    if not (ROOM / "c.s").exists():
+        return b""
+    records = [bytes.fromhex(r[2:]) for r in (ROOM / "c.s").read_text().split() if r.startswith("S1")]
+    return b"".join(r[3:-1] for r in records)
 
 
-def by_crasm(folder, first, statements):
-    text = [" cpu 6803", f" * = ${first:04X}"] + [s.replace("FCB ", "db") for s in statements]
-    (folder / "c.asm").write_text("\n".join(text) + "\n")
-    subprocess.run(["crasm", "-o", "c.s19", "c.asm"], cwd=folder, check=True, capture_output=True)
-    made = bytearray()
-    for line in (folder / "c.s19").read_text().splitlines():
-        if line.startswith("S1"):
-            record = bytes.fromhex(line[2:])
-            at = record[1] * 256 + record[2] - first
-            made[at:at + len(record) - 4] = record[3:-1]
-    return bytes(made)
+ASSEMBLERS = {"dasm": dasm, "crasm": crasm}
 
 
-def compare(folder, image, first, last):
-    """How many lines there are, and who made other bytes of them."""
-    lines = listing(folder, image, first, last)
-    statements = [line[14:] for line in lines]
-    wrong = [by.__name__ for by in (by_dasm, by_crasm) if by(folder, first, statements) != bytes(image[first:last + 1])]
-    return len(lines), wrong
+def assembled(name, first, lines):
+    return ASSEMBLERS[name](PRELUDE[name] % first + "".join(line[14:] + "\n" for line in lines))
+
+
+def has_twin(op):
+    return op >= 0xF0 or 0xB0 <= op <= 0xBF
+
+
+def is_branch(op):
+    return 0x20 <= op <= 0x2F or op == 0x8D
+
+
+def mended(image, lines):
+    for line in lines:
+        at = int(line[:4], 16)
+        code = bytes.fromhex(line[6:14])
+        if len(code) == 3 and has_twin(code[0]) and code[1] == 0:
+            image[at + 1] = 0x01
+        if len(code) == 2 and is_branch(code[0]) and not 0 <= at + 2 + code[1] - 256 * (code[1] > 127) < 65536:
+            image[at + 1] = 0xFE
+    return image
+
+
+def every_opcode():
+    """Every opcode at $4000, as the lister has its length, with the operand bytes 12 34, a branch with 10."""
+    image, at, codes = bytearray(65536), 0x4000, 0
+    for op in range(256):
+        image[at:at + 3] = bytes([op, 0x10 if is_branch(op) else 0x12, 0x34])
+        line = listed(image, at, at + 2)[0]
+        codes += line[16:19] != "FCB"
+        at += len(line[6:14].split())
+    return image, 0x4000, at - 1, codes
+
+
+def shortened():
+    """How many extended opcodes with a direct twin come out shorter with the operand $0012; whether a branch from $FFFE to $0000 does not come out."""
+    counts = {name: 0 for name in ASSEMBLERS}
+    twins = [op for op in range(256) if has_twin(op)]
+    for op in twins:
+        image = bytearray(65536)
+        image[0x4000:0x4003] = bytes([op, 0x00, 0x12])
+        lines = listed(image, 0x4000, 0x4002)
+        for name in ASSEMBLERS:
+            counts[name] += len(assembled(name, 0x4000, lines)) == 2
+    image = bytearray(65536)
+    image[0xFFFE:] = b"\x20\x00"
+    lines = listed(image, 0xFFFE, 0xFFFF)
+    for name in ASSEMBLERS:
+        back = "comes" if assembled(name, 0xFFFE, lines) == b"\x20\x00" else "does not come"
+        print(f"{name}: {counts[name]} of {len(twins)} extended operands below $0100 shortened; a branch across $FFFF {back} back")
 
 
 def main():
-    images = int(sys.argv[1]) if len(sys.argv) > 1 else 100
-    source = random.Random(3)
-    differing = 0
-    with tempfile.TemporaryDirectory() as name:
-        folder = pathlib.Path(name)
-        code = b"".join(bytes((opcode, 0x12, 0x34))[:length(opcode)] for opcode in range(256) if opcode not in UNDEFINED)
-        image = bytearray(65536)
-        image[0x1000:0x1000 + len(code)] = code
-        lines, wrong = compare(folder, image, 0x1000, 0x1000 + len(code) - 1)
-        differing += bool(wrong)
-        print("opcodes", lines, "bytes", len(code), "differ", " ".join(wrong) or "none")
-        lines = size = 0
-        for _ in range(images):
-            image = bytes(source.randrange(1, 256) for _ in range(65536))
-            first = source.randrange(0x200, 0xF000)
-            last = first + source.randrange(0xC00)
-            more, wrong = compare(folder, image, first, last)
-            lines, size = lines + more, size + last + 1 - first
-            if wrong:
-                differing += 1
-                print(f"{first:04X} {last:04X}", *wrong)
-        print("random", images, "lines", lines, "bytes", size, "differ", differing)
-    sys.exit(differing > 0)
+    ranges = int(sys.argv[1]) if sys.argv[1:] else 300
+    chance = random.Random(int(sys.argv[2]) if sys.argv[2:] else 6803)
+    image, first, last, codes = every_opcode()
+    lines = listed(image, first, last)
+    bad = 0
+    for name in ASSEMBLERS:
+        differ = assembled(name, first, lines) != image[first:last + 1]
+        bad += differ
+        print(f"{name}: {codes} opcodes in {len(lines)} lines, {last + 1 - first} bytes, differing {int(differ)}")
+    total, differing = 0, {name: 0 for name in ASSEMBLERS}
+    for _ in range(ranges):
+        image = bytearray(chance.randbytes(65536))
+        first = chance.choice([chance.randrange(65536), 65535 - chance.randrange(300)])
+        last = min(65535, first + chance.choice([chance.randrange(8), chance.randrange(4096)]))
+        image = mended(image, listed(image, first, last))
+        lines = listed(image, first, last)
+        total += last + 1 - first
+        for name in ASSEMBLERS:
+            differing[name] += assembled(name, first, lines) != image[first:last + 1]
+    for name, count in differing.items():
+        bad += count
+        print(f"{name}: {ranges} random ranges, {total} bytes, differing {count}")
+    shortened()
+    sys.exit(bad > 0)
 
 
 if __name__ == "__main__":

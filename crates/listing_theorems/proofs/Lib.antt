@@ -9,3 +9,4 @@ pub mod Columns
 pub mod Worked
 pub mod Listed
 pub mod Assembled
+pub mod Long
