@@ -10,7 +10,6 @@ use lib.ListN.{length, take, drop, length-drop, length-append, drop-of-length-le
 use lib.Seq.{sets, sets-eq, drop-append-seam, drop-drop, length-take-le}
 use borrow.Author.Tests.{eq-eqb, ne-eqb, lt-ltb, le-ltb}
 use Rattle.laws.proofs.Apart.{apart}
-use Rattle.laws.proofs.Conds.{cases}
 use Rattle.laws.proofs.Lists.{sets-append, take-rest}
 use Rattle.numbers.specs.Numbers.{over}
 use Rattle.replies.specs.Replies.{told}
@@ -31,13 +30,29 @@ use Rattle.assembling.specs.Assembling.{pieceBytes, follows, dueNext, li
 use Rattle.assembling.specs.Checks.{checkedOf, refusalOf}
 use Rattle.assembling.specs.Assembling.{AssembleReply, wrote, nothing, refuses, lineFaultNumber, toldAssembled, assembleAnswer, assembleBuffer, bytesIn}
 
--- what follows a line, where two ways to go on agree
-on-both : (r : Read) (due : Due) (line : ℕ) (f g : Piece → ℕ → Outcome) → ((p : Piece) (n : ℕ) → r ≡ Line p n → f p n ≡ g p n)
-    → onStep (lineStep r due) line f ≡ onStep (lineStep r due) line g
-on-both Bad due line f g h = refl
-on-both (Far a) due line f g h = cases (λ (s : Step). onStep s line f ≡ onStep s line g) (follows due a) (λ _. refl) (λ _. refl)
-on-both (Line p n) due line f g h =
-    cases (λ (s : Step). onStep s line f ≡ onStep s line g) (follows due (p .address)) (λ _. ap (λ (o : Outcome). pieceBytes p then o) (h p n refl)) (λ _. refl)
+-- a line that is taken was read and follows on
+pub taken : (r : Read) (due : Due) (p : Piece) (n : ℕ) → lineStep r due ≡ Takes p n → (r ≡ Line p n) × (follows due (p .address) ≡ true)
+taken Bad due p n e = apart cc
+taken (Far a) due p n e = by (follows due a) e
+  where
+    by : (b : Bool) → cond b (Stops TooFar) (Stops Malformed) ≡ Takes p n → (Far a ≡ Line p n) × (follows due (p .address) ≡ true)
+    by true e = apart cc
+    by false e = apart cc
+taken (Line q m) due p n e = by (follows due (q .address)) refl e
+  where
+    by : (b : Bool) → follows due (q .address) ≡ b → cond b (Takes q m) (Stops Malformed) ≡ Takes p n
+        → (Line q m ≡ Line p n) × (follows due (p .address) ≡ true)
+    by true f e = let g : q ≡ p = cc in (cc, rw (← g) f)
+    by false f e = apart cc
+
+-- what follows a line that is taken, where two ways to go on agree
+pub on-both : (r : Read) (due : Due) (line : ℕ) (f g : Piece → ℕ → Outcome)
+    → ((p : Piece) (n : ℕ) → r ≡ Line p n → follows due (p .address) ≡ true → f p n ≡ g p n) → onStep (lineStep r due) line f ≡ onStep (lineStep r due) line g
+on-both r due line f g h = by (lineStep r due) refl
+  where
+    by : (s : Step) → lineStep r due ≡ s → onStep s line f ≡ onStep s line g
+    by (Stops fault) e = refl
+    by (Takes p n) e = let t = taken r due p n e in ap (λ (o : Outcome). pieceBytes p then o) (h p n (t .0) (t .1))
 
 -- any two numbers of lines that are enough agree
 enough : (f g : ℕ) (w : List ℕ) (due : Due) (line : ℕ) → length w ≤ f → length w ≤ g → assembledFrom f w due line ≡ assembledFrom g w due line
@@ -50,7 +65,7 @@ enough (suc f) zero (c ∷ w) due line p q = absurd (let z : ⊥ = omega arith i
 enough (suc f) (suc g) [] due line p q = refl
 enough (suc f) (suc g) (c ∷ w) due line p q =
     on-both (lineIn (c ∷ w)) due line _ _
-    (λ r n e. let l = length-drop n (c ∷ w) in
+    (λ r n e _. let l = length-drop n (c ∷ w) in
     let s = read-whole (c ∷ w) r n e .0 in
     enough f g (drop n (c ∷ w)) (dueNext r) (line + 1) (omega (arith, l, s)) (omega (arith, l, s)))
 
@@ -59,7 +74,7 @@ pub text-more : (c : ℕ) (text : List ℕ) (due : Due) (line : ℕ) → textFro
 unfolding textFrom assembledFrom
 text-more c text due line =
     on-both (lineIn (c ∷ text)) due line _ _
-    (λ r n e. let l = length-drop n (c ∷ text) in
+    (λ r n e _. let l = length-drop n (c ∷ text) in
     let s = read-whole (c ∷ text) r n e .0 in
     enough (length text) (length (drop n (c ∷ text))) (drop n (c ∷ text)) (dueNext r) (line + 1) (omega (arith, l, s)) (omega arith))
 
@@ -78,21 +93,6 @@ text-line (c ∷ t) rest p due line e f =
 pub text-done : (due : Due) (line : ℕ) → textFrom [] due line ≡ good []
 unfolding textFrom assembledFrom
 text-done due line = refl
-
--- a line that is taken was read and follows on
-pub taken : (r : Read) (due : Due) (p : Piece) (n : ℕ) → lineStep r due ≡ Takes p n → (r ≡ Line p n) × (follows due (p .address) ≡ true)
-taken Bad due p n e = apart cc
-taken (Far a) due p n e = by (follows due a) e
-  where
-    by : (b : Bool) → cond b (Stops TooFar) (Stops Malformed) ≡ Takes p n → (Far a ≡ Line p n) × (follows due (p .address) ≡ true)
-    by true e = apart cc
-    by false e = apart cc
-taken (Line q m) due p n e = by (follows due (q .address)) refl e
-  where
-    by : (b : Bool) → follows due (q .address) ≡ b → cond b (Takes q m) (Stops Malformed) ≡ Takes p n
-        → (Line q m ≡ Line p n) × (follows due (p .address) ≡ true)
-    by true f e = let g : q ≡ p = cc in (cc, rw (← g) f)
-    by false f e = apart cc
 
 pub piece-length : (p : Piece) → p .length ≤ 3 → length (pieceBytes p) ≡ p .length
 piece-length p h = length-take-le (p .length) (p .first ∷ p .second ∷ p .third ∷ []) h
@@ -127,7 +127,7 @@ module _ (text : List ℕ) where
       → left at due line ≡ onStep (lineStep (lineIn (drop at text)) due) line (λ p size. left (at + size) (dueNext p) (line + 1))
   left-more at due line h =
       text-at (drop at text) due line (omega (arith, length-drop at text))
-      ∙ on-both (lineIn (drop at text)) due line _ _ (λ p n e. ap (λ (w : List ℕ). textFrom w (dueNext p) (line + 1)) (drop-drop n at text))
+      ∙ on-both (lineIn (drop at text)) due line _ _ (λ p n _ _. ap (λ (w : List ℕ). textFrom w (dueNext p) (line + 1)) (drop-drop n at text))
 
   left-done : (at : ℕ) (due : Due) (line : ℕ) → length text ≤ at → left at due line ≡ good []
   left-done at due line h = rw (drop-of-length-le text h) (text-done due line)

@@ -3,12 +3,13 @@ use Prim.Native.Nat.{ℕ, zero, suc, _+_, _-_, _≤_, _<_}
 use native.Mathlib.Nat.{zero-add}
 use native.Mathlib.Omega.{arith}
 use mathlib.Core.Path.{_≡_, refl, sym, ap, _∙_}
+use mathlib.Core.Logic.{_⊎_, inl, inr}
 use mathlib.Core.Bool.{Bool, true, false, cond, not}
 use mathlib.Core.List.{List, [], _++_}
 use lib.Dec.{ltb}
 use lib.ListN.{length, drop, length-append}
 use lib.Seq.{sets, sets-eq}
-use borrow.Author.Tests.{lt-ltb, le-ltb, ltb-false, eq-eqb, ne-eqb}
+use borrow.Author.Tests.{lt-ltb, le-ltb, ltb-true, ltb-false, eq-eqb, ne-eqb}
 use Rattle.laws.proofs.Bools.{neither}
 use Rattle.laws.proofs.Conds.{picks, passes}
 use Rattle.laws.proofs.Lists.{sets-append}
@@ -23,22 +24,27 @@ use Rattle.listing_lines.specs.Lines.{bytesOf, itemLine}
 use Rattle.listing.specs.Listing.{imageByte, fittingIn, shownAt, lineAt, lengthAt, listedFrom, listingFrom}
 use Rattle.listing.specs.Listing.{isBadRange, listAnswer, listedBuffer, listBuffer}
 
--- what is listed is a data byte, or the instruction that the opcode means, all of whose bytes are in the range
+-- an instruction that the range's end cuts off
+abbrev pub CutOff : Decoded → ℕ → Type 0
+CutOff Undefined room = ⊥
+CutOff (Defined i) room = room < i .length
+
+-- what is listed is a data byte, the opcode being undefined or cut off, or the instruction that it means, all of whose bytes are in the range
 pub data Item (decoded : Decoded) (room : ℕ) : Decoded → Type 0 where
-  data-byte : Item decoded room Undefined
+  data-byte : (decoded ≡ Undefined) ⊎ CutOff decoded room → Item decoded room Undefined
   whole : (i : Instruction) → decoded ≡ Defined i → i .length ≤ room → Item decoded room (Defined i)
 
 item : (decoded : Decoded) (room : ℕ) → Item decoded room (fittingIn room decoded)
-item Undefined room = data-byte
+item Undefined room = data-byte (inl refl)
 item (Defined i) room = by (ltb room (i .length)) refl
   where
     by : (t : Bool) → ltb room (i .length) ≡ t → Item (Defined i) room (cond t Undefined (Defined i))
-    by true e = data-byte
+    by true e = data-byte (inr (ltb-true room (i .length) e))
     by false e = whole i refl (ltb-false room (i .length) e)
 
 item-bounds : (opcode room : ℕ) {shown : Decoded} → 1 ≤ room → Item (decodeOf opcode) room shown
     → (1 ≤ bytesOf shown) × (bytesOf shown ≤ 3) × (bytesOf shown ≤ room)
-item-bounds opcode room h data-byte = (omega arith, omega arith, h)
+item-bounds opcode room h (data-byte _) = (omega arith, omega arith, h)
 item-bounds opcode room h (whole i e l) = let b = bounds opcode i e in (b .0 .0, b .0 .1, l)
 
 module _ (image : List ℕ) (last : ℕ) where

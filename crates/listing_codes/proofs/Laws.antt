@@ -158,9 +158,12 @@ pub branch-placed : (address op v size next distance : ℕ) → next ≡ up addr
 branch-placed address op v size next distance e f = rw (f, e)
 
 -- past the table nothing is defined
-pub past-table : (address op v size : ℕ) → 256 ≤ op → op ≤ 256 → Bad ≡ codedAs address op (decodeOf op) v size
+pub table-ends : decodeOf 256 ≡ Undefined
 unfolding decodeOf
-past-table address op v size h l = let e : op ≡ 256 = omega arith in rw e
+table-ends = refl
+
+pub past-table : (address op v size : ℕ) → 256 ≤ op → op ≤ 256 → Bad ≡ codedAs address op (decodeOf op) v size
+past-table address op v size h l = let e : op ≡ 256 = omega arith in rw (e, table-ends)
 
 -- a line is data where its key is that of FCB with a byte, and else an opcode that is searched
 module _ (address : ℕ) (name : List ℕ) (form : Form) (v size k l : ℕ) (this : (k ≡ keyOf name form) × Named name)

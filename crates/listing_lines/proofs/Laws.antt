@@ -79,7 +79,3 @@ item-size address (Defined i) first second third = line-size address _ _ _ _
 pub item-least : (shown : Decoded) → 20 ≤ itemSize shown
 item-least Undefined = omega arith
 item-least (Defined i) = size-least _ (formOf (i .place))
-
-pub item-most : (shown : Decoded) → itemSize shown ≤ 28
-item-most Undefined = omega arith
-item-most (Defined i) = size-most _ (formOf (i .place))

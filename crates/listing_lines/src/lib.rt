@@ -5,9 +5,9 @@ use opcodes::Place;
 ghost use mathlib.Core.Path.{_≡_};
 ghost use mathlib.Core.List.{[], _∷_};
 ghost use Prim.Native.Nat.{_≤_};
-ghost use lib.ListN.{getD, length, take};
+ghost use lib.ListN.{length, take};
 ghost use Rattle.characters.specs.Characters.{hexadecimalOf};
-ghost use Rattle.listing_lines.specs.Lines.{formOf, publishedLine, columnOf, branchTarget, operandOf, bytesOf, itemLine};
+ghost use Rattle.listing_lines.specs.Lines.{formOf, publishedLine, columnOf, operandOf, bytesOf, itemLine};
 ghost use Rattle.listing_lines.specs.Cells.{headOf, endingOf, bareFourth, fourthOf, sizeOf, itemSize, cellsOf};
 
 // How an operand is written: not at all, `#$12`, `#$1234`, `$12`, `$1234`, `$12,X`.

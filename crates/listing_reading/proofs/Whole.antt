@@ -5,7 +5,7 @@ use mathlib.Core.Path.{_≡_, ap, _∙_}
 use mathlib.Core.Bool.{true}
 use mathlib.Core.List.{List}
 use lib.Dec.{ltb}
-use lib.ListN.{getD, length, drop, length-append}
+use lib.ListN.{length, drop, length-append}
 use Rattle.laws.proofs.Apart.{apart}
 use Rattle.laws.proofs.Bools.{both}
 use Rattle.laws.proofs.Conds.{cases}
@@ -15,21 +15,19 @@ use Rattle.listing_codes.specs.declared.Piece.{Piece}
 use Rattle.listing_codes.specs.declared.Read.{Read}
 use Rattle.listing_codes.specs.declared.Read.the-variants.{Bad, Far, Line}
 use Rattle.listing_codes.proofs.Whole.{coded-whole, coded-far}
-use Rattle.listing_reading.specs.Reading.{digitIn, addressIn, columnIn, nameIn, formIn, operandIn, writtenAs, begins, noEnd, isLine, lineIn}
+use Rattle.listing_reading.specs.Reading.{at, digitIn, twoIn, fourIn, addressIn, columnIn, nameIn, formIn, operandIn, writtenAs, begins, noEnd, isLine, lineIn}
 use Rattle.listing_reading.proofs.Begins.{begins-rest}
 
 digit-small : (c : ℕ) → digitIn c < 16
 unfolding digitIn
 digit-small c = cases (λ (n : ℕ). n < 16) (ltb c 58) (λ e. omega arith) (λ e. omega arith)
 
--- the address is one
-pub address-small : (w : List ℕ) → addressIn w < 65536
-address-small w =
-    let a = digit-small (getD w 0 0) in
-    let b = digit-small (getD w 1 0) in
-    let c = digit-small (getD w 2 0) in
-    let d = digit-small (getD w 3 0) in
-    omega arith
+-- two digits are a byte, and four a word
+pub byte-small : (w : List ℕ) (k : ℕ) → twoIn w k < 256
+byte-small w k = let d = digit-small (at w k) in let e = digit-small (at w (k + 1)) in omega arith
+
+pub word-small : (w : List ℕ) (k : ℕ) → fourIn w k < 65536
+word-small w k = let d = byte-small w k in let e = byte-small w (k + 2) in omega arith
 
 -- the line that a text says is within it
 written-long : (w : List ℕ) → 20 ≤ length (writtenAs w)
@@ -62,7 +60,7 @@ read-whole w p n =
     let least = written-long w in
     let most = written-within w is in
     let sized = h .sized in
-    (omega arith, omega arith, h .least, h .most, h .stands, h .inside (address-small w)))
+    (omega arith, omega arith, h .least, h .most, h .stands, h .inside (word-small w 1)))
 
 -- a target out of reach
 pub read-far : (w : List ℕ) (a : ℕ) → lineIn w ≡ Far a → a ≡ addressIn w

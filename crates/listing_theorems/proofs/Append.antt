@@ -24,11 +24,12 @@ use Rattle.listing_theorems.proofs.Shows.{reads}
 abbrev lineShown : {w : List ℕ} {r : Read} → Shows w r → List ℕ
 lineShown s = publishedLine (s .address) (s .column) (s .name) (s .form) (s .operand)
 
-then-none : (o : Outcome) → [] then o ≡ o
+-- bytes before an outcome: none, and some after others
+pub then-none : (o : Outcome) → [] then o ≡ o
 then-none (bad fault line) = refl
 then-none (good bytes) = refl
 
-then-then : (a b : List ℕ) (o : Outcome) → a then (b then o) ≡ (a ++ b) then o
+pub then-then : (a b : List ℕ) (o : Outcome) → a then (b then o) ≡ (a ++ b) then o
 then-then a b (bad fault line) = refl
 then-then a b (good bytes) = ap good (sym (append-assoc a b bytes))
 

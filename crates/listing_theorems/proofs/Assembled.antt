@@ -4,9 +4,9 @@ use Prim.Native.Nat.{ℕ, zero, suc, _+_, _≤_, _<_}
 use native.Mathlib.Nat.{add-zero}
 use native.Mathlib.Omega.{arith}
 use mathlib.Core.Path.{_≡_, refl, sym, ap, subst, _∙_}
-use mathlib.Core.Logic.{_↔_, _⊎_, inl, inr}
+use mathlib.Core.Logic.{_↔_, inl, inr}
 use mathlib.Core.Bool.{Bool, true, false, cond}
-use mathlib.Core.List.{List, [], _∷_, _++_, append-assoc, append-nil}
+use mathlib.Core.List.{List, [], _∷_, _++_, append-nil}
 use mathlib.Core.Option.{Option, none, some}
 use lib.Dec.{ltb, eqb}
 use lib.ListN.{length, drop, length-drop}
@@ -32,14 +32,7 @@ use Rattle.assembling.specs.Assembling.{pieceBytes, follows, dueNext, Outcome, 
 use Rattle.assembling.specs.Assembling.{AssembleReply, wrote, nothing, refuses, lineFaultNumber, toldAssembled, outcomeAnswer, assembleAnswer, bytesIn, assembledBuffer, assembleBuffer}
 use Rattle.assembling.proofs.Laws.{text-at, text-done}
 use Rattle.listing_theorems.specs.Texts.{Goes, here, onward, Faulty, Stopped, Through}
-
-then-then : (a b : List ℕ) (o : Outcome) → (a then (b then o)) ≡ ((a ++ b) then o)
-then-then a b (bad fault line) = refl
-then-then a b (good bytes) = ap good (sym (append-assoc a b bytes))
-
-then-nothing : (o : Outcome) → ([] then o) ≡ o
-then-nothing (bad fault line) = refl
-then-nothing (good bytes) = refl
+use Rattle.listing_theorems.proofs.Append.{then-none, then-then}
 
 -- what a text's first line does, by what is read
 module _ (text : List ℕ) (due : Due) (n : ℕ) where
@@ -62,7 +55,7 @@ module _ (text : List ℕ) (due : Due) (n : ℕ) where
 -- lines that are good are behind
 goes-from : {text bytes rest : List ℕ} {due due′ : Due} {k : ℕ} (n : ℕ) → Goes text due k bytes rest due′
     → textFrom text due n ≡ bytes then textFrom rest due′ (n + k)
-goes-from n (here {text} {due}) = rw (add-zero n) (sym (then-nothing (textFrom text due n)))
+goes-from n (here {text} {due}) = rw (add-zero n) (sym (then-none (textFrom text due n)))
 goes-from n (onward {text} {bytes} {rest} {due} {due′} {k} p size e f g) =
     let more : n + 1 + k ≡ n + suc k = omega arith in
     takes text due n p size e f ∙ ap (λ (o : Outcome). pieceBytes p then o) (goes-from (n + 1) g)

@@ -1,14 +1,13 @@
 -- A line written and read again: its address, mnemonic, form and operand come back, whatever columns 7 to 14 hold. Assumes nothing.
-use Prim.Native.Nat.{ℕ, zero, suc, _+_, _/_, _%_, _≤_, _<_}
+use Prim.Native.Nat.{ℕ, _/_, _%_, _<_}
 use native.Mathlib.Omega.{arith}
 use mathlib.Core.Path.{_≡_, refl, sym, ap, subst, _∙_}
 use mathlib.Core.Bool.{Bool, true, false}
 use mathlib.Core.List.{List, [], _∷_, _++_}
 use lib.Dec.{eqb}
-use lib.ListN.{getD, length, take, drop}
-use lib.Seq.{take-all, drop-cons}
+use lib.ListN.{getD, length}
 use borrow.Author.Tests.{eqb-true}
-use Rattle.listing_lines.specs.Lines.{cellsFrom, cells, publishedLine}
+use Rattle.listing_lines.specs.Lines.{cells, publishedLine}
 use Rattle.listing_lines.specs.declared.Form.{Form}
 use Rattle.listing_lines.specs.declared.Form.the-variants.{Bare, HashByte, HashWord, Byte, Word, Indexed}
 use Rattle.listing_codes.specs.Codes.{codedOf}

@@ -14,17 +14,14 @@ use Rattle.listing_lines.proofs.Laws.{line-size}
 use Rattle.listing_lines.specs.declared.Form.{Form}
 use Rattle.listing_lines.specs.declared.Form.the-variants.{Bare, HashByte, HashWord, Byte, Word, Indexed}
 use Rattle.listing_codes.specs.Codes.{codedOf}
-use Rattle.listing_codes.specs.declared.Piece.{Piece}
 use Rattle.listing_codes.specs.declared.Read.{Read}
-use Rattle.listing_codes.specs.declared.Read.the-variants.{Bad, Line}
+use Rattle.listing_codes.specs.declared.Read.the-variants.{Bad}
 use Rattle.listing_reading.specs.Reading.{addressIn, columnIn, nameIn, formIn, operandIn, writtenAs, begins, noEnd, lineIn}
 use Rattle.listing_reading.proofs.Whole.{read-whole}
 use Rattle.assembling.specs.declared.Due.{Due}
 use Rattle.assembling.specs.declared.Due.the-variants.{Anywhere}
-use Rattle.assembling.specs.declared.Step.{Step}
-use Rattle.assembling.specs.declared.Step.the-variants.{Stops, Takes}
-use Rattle.assembling.specs.Assembling.{pieceBytes, dueNext, lineStep, onStep, Outcome, good, _then_, textFrom, outcomeOf}
-use Rattle.assembling.proofs.Laws.{text-at, taken}
+use Rattle.assembling.specs.Assembling.{dueNext, Outcome, good, _then_, textFrom, outcomeOf}
+use Rattle.assembling.proofs.Laws.{on-both, text-at}
 use Rattle.listing_reading.proofs.Unbroken.{cells-all}
 use Rattle.listing_theorems.proofs.Append.{text-append}
 
@@ -84,15 +81,6 @@ columns-free h d e r six m n k l =
     (subst (λ (x : List ℕ). lineIn (cells 6 h ++ cells 8 d ++ r) ≡ lineIn (cells 6 h ++ x ++ r)) b
     (columns-spelled _ _ _ _ _ _ r _ _ _ _ _ _ _ _ _ _ _ _ _ _ _ _ (ap noEnd c ∙ k) (ap noEnd b ∙ l))))
 
--- what is taken of a step, where two ways to go on agree
-on-both : (x : Read) (due : Due) (line : ℕ) (f g : Piece → ℕ → Outcome) → ((p : Piece) (n : ℕ) → x ≡ Line p n → f p n ≡ g p n)
-    → onStep (lineStep x due) line f ≡ onStep (lineStep x due) line g
-on-both x due line f g h = by (lineStep x due) refl
-  where
-    by : (s : Step) → lineStep x due ≡ s → onStep s line f ≡ onStep s line g
-    by (Stops fault) e = refl
-    by (Takes p n) e = ap (λ (o : Outcome). pieceBytes p then o) (h p n (taken x due p n e .0))
-
 past-columns : (h d r : List ℕ) (n : ℕ) → length h ≡ 6 → length d ≡ 8 → 20 ≤ n → drop n (h ++ d ++ r) ≡ drop (n - 14) r
 past-columns h d r n p q m =
     let e : n ≡ length (h ++ d) + (n - 14) = omega (arith, length-append h d) in
@@ -104,7 +92,7 @@ module _ (h d e r : List ℕ) (six : length h ≡ 6) (m : length d ≡ 8) (n : l
   first-free due line =
       text-at (h ++ d ++ r) due line (omega (arith, length-append (h ++ d) r, length-append h d))
       ∙ rw (columns-free h d e r six m n k l)
-      (on-both (lineIn (h ++ e ++ r)) due line _ _ (λ p size x. let a = read-whole (h ++ e ++ r) p size x .0 in
+      (on-both (lineIn (h ++ e ++ r)) due line _ _ (λ p size x _. let a = read-whole (h ++ e ++ r) p size x .0 in
       ap (λ (w : List ℕ). textFrom w (dueNext p) (line + 1)) (past-columns h d r size six m a ∙ sym (past-columns h e r size six n a))))
       ∙ sym (text-at (h ++ e ++ r) due line (omega (arith, length-append (h ++ e) r, length-append h e)))
 

@@ -20,6 +20,7 @@ use Rattle.mnemonics.specs.Mnemonics.{mnemonicOf}
 use Rattle.listing_lines.specs.Lines.{formOf}
 use Rattle.listing_lines.specs.declared.Form.{Form}
 use Rattle.listing_codes.specs.Codes.{isWritten, firstFrom, codeFor, isData}
+use Rattle.listing_codes.proofs.Laws.{table-ends}
 
 abbrev pub nameOf : Instruction → List ℕ
 nameOf i = mnemonicOf (i .operation) (i .place)
@@ -61,15 +62,11 @@ first-found test k (suc n) = by (test k) refl (firstFrom test (suc k) n) (first-
     by false e m (inl f) = inl (omega arith)
     by false e m (inr f) = inr (f .0, omega arith)
 
-past-table : decodeOf 256 ≡ Undefined
-unfolding decodeOf
-past-table = refl
-
 -- a mnemonic and form for which an opcode is found are those of that opcode
 pub found-at : (name : List ℕ) (form : Form) (i : Instruction) → decodeOf (codeFor name form) ≡ Defined i
     → (isWritten name form (Defined i) ≡ true) × (codeFor name form < 256)
 unfolding codeFor
 found-at name form i e =
-    ⊎-elim (λ n. let z : Undefined ≡ Defined i = sym past-table ∙ ap decodeOf (sym n) ∙ e in apart cc)
+    ⊎-elim (λ n. let z : Undefined ≡ Defined i = sym table-ends ∙ ap decodeOf (sym n) ∙ e in apart cc)
     (λ f. (subst (λ (d : Decoded). isWritten name form d ≡ true) e (f .0), f .1))
     (first-found (λ (op : ℕ). isWritten name form (decodeOf op)) 0 256)

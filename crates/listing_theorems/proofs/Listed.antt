@@ -154,7 +154,7 @@ unfolding mnemonicOf
 short = passes isShort tt tt
 
 line-short : (opcode room : ℕ) {shown : Decoded} → Item (decodeOf opcode) room shown → itemSize shown ≤ 25 * bytesOf shown
-line-short opcode room data-byte = omega arith
+line-short opcode room (data-byte _) = omega arith
 line-short opcode room (whole i e l) = leb→le _ _ (subst (λ (d : Decoded). T (isShort d)) e (short opcode))
 
 module _ (image : List ℕ) (last : ℕ) where

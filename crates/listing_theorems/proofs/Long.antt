@@ -31,10 +31,8 @@ use Rattle.listing_reading.specs.Reading.{twoIn, addressIn, columnIn, nameIn, f
 use Rattle.listing_reading.proofs.Whole.{read-whole}
 use Rattle.assembling.specs.declared.Due.{Due}
 use Rattle.assembling.specs.declared.Due.the-variants.{Anywhere, At}
-use Rattle.assembling.specs.declared.Step.{Step}
-use Rattle.assembling.specs.declared.Step.the-variants.{Stops, Takes}
-use Rattle.assembling.specs.Assembling.{pieceBytes, follows, dueNext, Outcome, good, _then_, lineStep, onStep, textFrom, outcomeOf}
-use Rattle.assembling.proofs.Laws.{text-at, taken, piece-length}
+use Rattle.assembling.specs.Assembling.{pieceBytes, follows, dueNext, good, textFrom, outcomeOf}
+use Rattle.assembling.proofs.Laws.{on-both, text-at, piece-length}
 use Rattle.listing_theorems.specs.Texts.{Goes, here, onward}
 use Rattle.listing_theorems.proofs.Known.{nameOf, found-at}
 use Rattle.listing_theorems.proofs.Shows.{reads}
@@ -205,15 +203,6 @@ drop-cut zero n l = let e : n - 0 ≡ n = omega arith in rw e
 drop-cut (suc m) zero l = let e : 0 - suc m ≡ 0 = omega arith in rw e
 drop-cut (suc m) (suc n) [] = sym (take-nil (suc n - suc m))
 drop-cut (suc m) (suc n) (c ∷ l) = let e : suc n - suc m ≡ n - m = omega arith in rw e (drop-cut m n l)
-
--- what follows a line that is taken, where two ways to go on agree
-on-both : (x : Read) (due : Due) (line : ℕ) (f g : Piece → ℕ → Outcome)
-    → ((p : Piece) (n : ℕ) → x ≡ Line p n → follows due (p .address) ≡ true → f p n ≡ g p n) → onStep (lineStep x due) line f ≡ onStep (lineStep x due) line g
-on-both x due line f g h = by (lineStep x due) refl
-  where
-    by : (s : Step) → lineStep x due ≡ s → onStep s line f ≡ onStep s line g
-    by (Stops fault) e = refl
-    by (Takes p n) e = let t = taken x due p n e in ap (λ (o : Outcome). pieceBytes p then o) (h p n (t .0) (t .1))
 
 text-cut : (fuel : ℕ) (text : List ℕ) (n : ℕ) (due : Due) (line : ℕ) → length text ≤ fuel → 25 * room due + 28 ≤ n
     → textFrom (take n text) due line ≡ textFrom text due line

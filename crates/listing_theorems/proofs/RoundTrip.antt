@@ -48,7 +48,7 @@ module _ (image : List ℕ) (last : ℕ) (size : length image ≡ 65536) (small 
   shown-back : (a : ℕ) → a ≤ last → (rest : List ℕ) {d : Decoded} → Item (decodeOf (imageByte image a)) (last + 1 - a) d
       → lineIn (itemLine a d (imageByte image a) (imageByte image (a + 1)) (imageByte image (a + 2)) ++ rest)
       ≡ Line (pieceAt a (bytesOf d)) (length (itemLine a d (imageByte image a) (imageByte image (a + 1)) (imageByte image (a + 2))))
-  shown-back a h rest data-byte = data-back a (imageByte image a) (imageByte image (a + 1)) (imageByte image (a + 2)) (omega arith) (small a) rest
+  shown-back a h rest (data-byte _) = data-back a (imageByte image a) (imageByte image (a + 1)) (imageByte image (a + 2)) (omega arith) (small a) rest
   shown-back a h rest (whole i e l) =
       item-back a (imageByte image a) (imageByte image (a + 1)) (imageByte image (a + 2)) (omega arith) (small a) (small (a + 1)) (small (a + 2)) rest i e (omega arith)
 

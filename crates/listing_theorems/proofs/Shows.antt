@@ -1,12 +1,11 @@
 -- What "of the published form" is, without the reader: a text begins with the line of an address, any eight characters but LF, a mnemonic, a form and an
 -- operand. The reader takes a text for exactly that. Assumes nothing.
-use Prim.Native.Nat.{ℕ, _+_, _<_}
-use native.Mathlib.Omega.{arith}
+use Prim.Native.Nat.{ℕ}
 use mathlib.Core.Path.{_≡_, refl, sym, ap, _∙_}
 use mathlib.Core.Logic.{_↔_}
 use mathlib.Core.Bool.{true, false, _&&_}
-use mathlib.Core.List.{List, _++_}
-use lib.Dec.{ltb, eqb}
+use mathlib.Core.List.{List}
+use lib.Dec.{eqb}
 use lib.ListN.{getD, length, drop}
 use borrow.Author.Tests.{eqb-true}
 use Rattle.laws.proofs.Apart.{apart}
@@ -15,35 +14,26 @@ use Rattle.laws.proofs.Conds.{cases}
 use Rattle.opcodes.specs.Opcodes.{decodeOf}
 use Rattle.opcodes.specs.declared.Decoded.{Decoded}
 use Rattle.opcodes.specs.declared.Decoded.the-variants.{Undefined, Defined}
-use Rattle.listing_lines.specs.Lines.{publishedLine, dataName}
+use Rattle.listing_lines.specs.Lines.{dataName}
 use Rattle.listing_lines.specs.declared.Form.{Form}
 use Rattle.listing_lines.specs.declared.Form.the-variants.{Bare, HashByte, HashWord, Byte, Word, Indexed}
 use Rattle.listing_codes.specs.Codes.{sameName, codeFor, isData, codedAs, codedOf}
 use Rattle.listing_codes.specs.declared.Read.{Read}
 use Rattle.listing_codes.specs.declared.Read.the-variants.{Bad, Far, Line}
-use Rattle.listing_reading.specs.Reading.{at, digitIn, twoIn, fourIn, addressIn, columnIn, nameIn, formIn, operandIn, writtenAs, begins, noEnd, isLine, lineIn}
+use Rattle.listing_reading.specs.Reading.{addressIn, columnIn, nameIn, formIn, operandIn, writtenAs, begins, noEnd, isLine, lineIn}
 use Rattle.listing_reading.proofs.Begins.{begins-rest}
+use Rattle.listing_reading.proofs.Whole.{byte-small, word-small}
 use Rattle.listing_theorems.specs.Published.{Writes, Shows}
 use Rattle.listing_theorems.proofs.Known.{nameOf, known-at, found-at}
 use Rattle.listing_theorems.proofs.Back.{any-back}
 
-digit-below : (c : ℕ) → digitIn c < 16
-unfolding digitIn
-digit-below c = cases (λ (d : ℕ). d < 16) (ltb c 58) (λ _. omega arith) (λ _. omega arith)
-
-byte-below : (w : List ℕ) (k : ℕ) → twoIn w k < 256
-byte-below w k = let d = digit-below (at w k) in let e = digit-below (at w (k + 1)) in omega arith
-
-word-below : (w : List ℕ) (k : ℕ) → fourIn w k < 65536
-word-below w k = let d = byte-below w k in let e = byte-below w (k + 2) in omega arith
-
 operand-written : (w : List ℕ) (form : Form) → Writes form (operandIn form w)
 operand-written w Bare = refl
-operand-written w HashByte = byte-below w 24
-operand-written w HashWord = word-below w 24
-operand-written w Byte = byte-below w 23
-operand-written w Word = word-below w 23
-operand-written w Indexed = byte-below w 23
+operand-written w HashByte = byte-small w 24
+operand-written w HashWord = word-small w 24
+operand-written w Byte = byte-small w 23
+operand-written w Word = word-small w 23
+operand-written w Indexed = byte-small w 23
 
 -- a mnemonic that comes to something does not end in an LF
 name-whole : (address : ℕ) (name : List ℕ) (form : Form) (v size : ℕ) → (codedOf address name form v size ≡ Bad → ⊥) → eqb (getD name 3 0) 10 ≡ false
@@ -78,7 +68,7 @@ module _ (w : List ℕ) (r : Read) (n : r ≡ Bad → ⊥) where
             form = formIn w;
             operand = operandIn (formIn w) w;
             rest = drop (length (writtenAs w)) w;
-            below = word-below w 1;
+            below = word-small w 1;
             eight = refl;
             unbroken = b .1;
             four = refl;

@@ -1,5 +1,5 @@
 -- A text line by line, as 02 speaks of it: good lines, then the first bad one or the end. proofs/Assembled.antt: each answer is given exactly so.
-use Prim.Native.Nat.{ℕ, zero, suc, _<_}
+use Prim.Native.Nat.{ℕ, suc, _<_}
 use mathlib.Core.Path.{_≡_}
 use mathlib.Core.Logic.{_⊎_}
 use mathlib.Core.Bool.{true, false}
