@@ -21,7 +21,7 @@ use Rattle.opcodes.specs.declared.Decoded.the-variants.{Undefined, Defined}
 use Rattle.opcodes.proofs.Bounds.{bounds}
 use Rattle.asking.specs.Asking.{Given, gives, replies}
 use Rattle.listing_lines.specs.Lines.{bytesOf, itemLine}
-use Rattle.listing.specs.Listing.{imageByte, fittingIn, shownAt, lineAt, lengthAt, listedFrom, listingFrom}
+use Rattle.listing.specs.Listing.{imageByte, fittingIn, shownAt, lineAt, listedBytes, listedFrom, listingFrom}
 use Rattle.listing.specs.Listing.{isBadRange, listAnswer, listedBuffer, listBuffer}
 
 -- an instruction that the range's end cuts off
@@ -54,15 +54,15 @@ module _ (image : List ℕ) (last : ℕ) where
 
   -- what is listed has one to three bytes, and stays within the range
   pub bytes-bounds : (address : ℕ) → address ≤ last
-      → (1 ≤ lengthAt image last address) × (lengthAt image last address ≤ 3) × (address + lengthAt image last address ≤ last + 1)
-  unfolding lengthAt
+      → (1 ≤ listedBytes image last address) × (listedBytes image last address ≤ 3) × (address + listedBytes image last address ≤ last + 1)
+  unfolding listedBytes
   bytes-bounds address h =
       let b = item-bounds (imageByte image address) (last + 1 - address) (omega arith) (item-at address) in
       (b .0, b .1, omega (arith, b .2))
 
   pub shown-bounds : (address : ℕ) {shown : Decoded} → address ≤ last → shown ≡ shownAt image last address
       → (shown ≡ shownAt image last address) × (1 ≤ bytesOf shown) × (bytesOf shown ≤ 3) × (address + bytesOf shown ≤ last + 1)
-  unfolding lengthAt
+  unfolding listedBytes
   shown-bounds address h e = let b = bytes-bounds address h in (e, rw e (b .0), rw e (b .1), rw e (b .2))
 
   -- any two numbers of lines that are enough do
@@ -75,21 +75,21 @@ module _ (image : List ℕ) (last : ℕ) where
     where
       by : ((b : ℕ) → last + 1 ≤ b + f → last + 1 ≤ b + g → listedFrom image last f b ≡ listedFrom image last g b)
           → (t : Bool) → ltb last address ≡ t
-          → cond t [] (lineAt image last address ++ listedFrom image last f (address + lengthAt image last address))
-          ≡ cond t [] (lineAt image last address ++ listedFrom image last g (address + lengthAt image last address))
+          → cond t [] (lineAt image last address ++ listedFrom image last f (address + listedBytes image last address))
+          ≡ cond t [] (lineAt image last address ++ listedFrom image last g (address + listedBytes image last address))
       by ih true e = refl
       by ih false e =
           let b = bytes-bounds address (ltb-false last address e) in
-          ap (λ (r : List ℕ). lineAt image last address ++ r) (ih (address + lengthAt image last address) (omega arith) (omega arith))
+          ap (λ (r : List ℕ). lineAt image last address ++ r) (ih (address + listedBytes image last address) (omega arith) (omega arith))
 
   -- the first line, and the listing of what follows
   pub listing-more : (address : ℕ) → address ≤ last
-      → listingFrom image last address ≡ lineAt image last address ++ listingFrom image last (address + lengthAt image last address)
+      → listingFrom image last address ≡ lineAt image last address ++ listingFrom image last (address + listedBytes image last address)
   unfolding listingFrom listedFrom
   listing-more address h =
       let n : last + 1 - address ≡ suc (last - address) = omega arith in
       let b = bytes-bounds address h in
-      let next = address + lengthAt image last address in
+      let next = address + listedBytes image last address in
       rw (n, le-ltb last address h)
       (ap (λ (r : List ℕ). lineAt image last address ++ r) (enough (last - address) (last + 1 - next) next (omega arith) (omega arith)))
 
@@ -102,13 +102,13 @@ module _ (image : List ℕ) (last : ℕ) where
     pub there : address ≤ last
     pub same : line ≡ lineAt image last address
     pub long : length line ≡ size
-    pub wide : bytes ≡ lengthAt image last address
+    pub wide : bytes ≡ listedBytes image last address
 
   -- .. of what was found there
   pub found : (address : ℕ) {size bytes : ℕ} {shown : Decoded} → address ≤ last → shown ≡ shownAt image last address → bytes ≡ bytesOf shown
       → let line = itemLine address shown (imageByte image address) (imageByte image (address + 1)) (imageByte image (address + 2)) in
       length line ≡ size → Turn address size bytes line
-  unfolding lineAt lengthAt
+  unfolding lineAt listedBytes
   found address h e f g = record { there = h; same = rw e; long = g; wide = f ∙ ap bytesOf e }
 
   pub listing-split : {address size bytes : ℕ} {line : List ℕ} → Turn address size bytes line

@@ -30,14 +30,14 @@ unfoldable pub lineAt : List ℕ → ℕ → ℕ → List ℕ
 lineAt image last address =
     itemLine address (shownAt image last address) (imageByte image address) (imageByte image (address + 1)) (imageByte image (address + 2))
 
-unfoldable pub lengthAt : List ℕ → ℕ → ℕ → ℕ
-lengthAt image last address = bytesOf (shownAt image last address)
+unfoldable pub listedBytes : List ℕ → ℕ → ℕ → ℕ
+listedBytes image last address = bytesOf (shownAt image last address)
 
 -- the lines from an address on, at most so many; "the next line starts" where the bytes of this one end
 unfoldable pub listedFrom : List ℕ → ℕ → ℕ → ℕ → List ℕ
 listedFrom image last zero address = []
 listedFrom image last (suc n) address =
-    cond (ltb last address) [] (lineAt image last address ++ listedFrom image last n (address + lengthAt image last address))
+    cond (ltb last address) [] (lineAt image last address ++ listedFrom image last n (address + listedBytes image last address))
 
 -- a line for each byte is enough
 unfoldable pub listingFrom : List ℕ → ℕ → ℕ → List ℕ

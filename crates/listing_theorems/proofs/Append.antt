@@ -18,10 +18,10 @@ use Rattle.assembling.specs.declared.Step.{Step}
 use Rattle.assembling.specs.declared.Step.the-variants.{Stops, Takes}
 use Rattle.assembling.specs.Assembling.{pieceBytes, follows, dueNext, lineStep, onStep, Outcome, bad, good, _then_, textFrom}
 use Rattle.assembling.proofs.Laws.{text-at, text-line, text-done, taken}
-use Rattle.listing_theorems.specs.Published.{Shows}
+use Rattle.listing_theorems.specs.Published.{ShowsLine}
 use Rattle.listing_theorems.proofs.Shows.{reads}
 
-abbrev lineShown : {w : List ℕ} {r : Read} → Shows w r → List ℕ
+abbrev lineShown : {w : List ℕ} {r : Read} → ShowsLine w r → List ℕ
 lineShown s = publishedLine (s .address) (s .column) (s .name) (s .form) (s .operand)
 
 -- bytes before an outcome: none, and some after others
@@ -39,7 +39,7 @@ pub record Leaves (lines : List ℕ) (due : Due) (line : ℕ) (bytes : List ℕ)
   pub number : ℕ
   pub onward : (w : List ℕ) → textFrom (lines ++ w) due line ≡ bytes then textFrom w next number
 
-module _ {v : List ℕ} {p : Piece} {n : ℕ} (s : Shows v (Line p n)) where
+module _ {v : List ℕ} {p : Piece} {n : ℕ} (s : ShowsLine v (Line p n)) where
   shown-size : n ≡ length (lineShown s)
   shown-size = coded-whole (s .address) (s .operand) (length (lineShown s)) (s .name) (s .form) p n (s .comes) .sized
 
@@ -104,7 +104,7 @@ append (suc n) (c ∷ l) due line bytes h e =
     by (λ lines due line bytes. append n lines due line bytes) (lineStep (lineIn (c ∷ l)) due) refl (sym (text-at (c ∷ l) due line (omega arith)) ∙ e)
   where
     goes : ((lines : List ℕ) (due : Due) (line : ℕ) (bytes : List ℕ) → length lines ≤ n → textFrom lines due line ≡ good bytes → Leaves lines due line bytes)
-        → (p : Piece) (size : ℕ) (s : Shows (c ∷ l) (Line p size)) → follows due (p .address) ≡ true
+        → (p : Piece) (size : ℕ) (s : ShowsLine (c ∷ l) (Line p size)) → follows due (p .address) ≡ true
         → (o : Outcome) → textFrom (s .rest) (dueNext p) (line + 1) ≡ o → pieceBytes p then o ≡ good bytes → Leaves (c ∷ l) due line bytes
     goes ih p size s f (bad fault k) t z = apart cc
     goes ih p size s f (good more) t z =

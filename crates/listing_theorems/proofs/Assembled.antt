@@ -31,7 +31,7 @@ use Rattle.assembling.specs.declared.Assembled.the-variants as assembled
 use Rattle.assembling.specs.Assembling.{pieceBytes, follows, dueNext, Outcome, bad, good, _then_, lineStep, onStep, textFrom, outcomeOf}
 use Rattle.assembling.specs.Assembling.{AssembleReply, wrote, nothing, refuses, lineFaultNumber, toldAssembled, outcomeAnswer, assembleAnswer, bytesIn, assembledBuffer, assembleBuffer}
 use Rattle.assembling.proofs.Laws.{text-at, text-done}
-use Rattle.listing_theorems.specs.Texts.{Goes, here, onward, Faulty, Stopped, Through}
+use Rattle.listing_theorems.specs.Texts.{GoesOn, here, onward, Faulty, Stopped, Through}
 use Rattle.listing_theorems.proofs.Append.{then-none, then-then}
 
 -- what a text's first line does, by what is read
@@ -53,7 +53,7 @@ module _ (text : List ℕ) (due : Due) (n : ℕ) where
   stops TooFar h (e, f) = text-at text due n h ∙ rw (e, f)
 
 -- lines that are good are behind
-goes-from : {text bytes rest : List ℕ} {due due′ : Due} {k : ℕ} (n : ℕ) → Goes text due k bytes rest due′
+goes-from : {text bytes rest : List ℕ} {due due′ : Due} {k : ℕ} (n : ℕ) → GoesOn text due k bytes rest due′
     → textFrom text due n ≡ bytes then textFrom rest due′ (n + k)
 goes-from n (here {text} {due}) = rw (add-zero n) (sym (then-none (textFrom text due n)))
 goes-from n (onward {text} {bytes} {rest} {due} {due′} {k} p size e f g) =

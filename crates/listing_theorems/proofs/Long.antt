@@ -33,7 +33,7 @@ use Rattle.assembling.specs.declared.Due.{Due}
 use Rattle.assembling.specs.declared.Due.the-variants.{Anywhere, At}
 use Rattle.assembling.specs.Assembling.{pieceBytes, follows, dueNext, good, textFrom, outcomeOf}
 use Rattle.assembling.proofs.Laws.{on-both, text-at, piece-length}
-use Rattle.listing_theorems.specs.Texts.{Goes, here, onward}
+use Rattle.listing_theorems.specs.Texts.{GoesOn, here, onward}
 use Rattle.listing_theorems.proofs.Known.{nameOf, found-at}
 use Rattle.listing_theorems.proofs.Shows.{reads}
 use Rattle.listing_theorems.proofs.Assembled.{goes-through}
@@ -115,7 +115,7 @@ room-after Anywhere p e h = omega arith
 room-after (At next) p e h = let f = eqb-true next (p .address) e in omega arith
 
 -- lines that are behind
-goes-short : {text bytes rest : List ℕ} {due due′ : Due} {k : ℕ} → Goes text due k bytes rest due′
+goes-short : {text bytes rest : List ℕ} {due due′ : Due} {k : ℕ} → GoesOn text due k bytes rest due′
     → (length text ≤ 25 * length bytes + length rest) × (length bytes ≤ room due)
 goes-short here = (omega arith, omega arith)
 goes-short (onward {text} {bytes} {rest} {due} p size e f g) =

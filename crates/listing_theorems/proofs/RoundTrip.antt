@@ -18,7 +18,7 @@ use Rattle.listing_codes.specs.Codes.{piece}
 use Rattle.listing_codes.specs.declared.Piece.{Piece}
 use Rattle.listing_codes.specs.declared.Read.the-variants.{Line}
 use Rattle.listing_reading.specs.Reading.{addressIn, lineIn}
-use Rattle.listing.specs.Listing.{imageByte, shownAt, lineAt, lengthAt, listingFrom}
+use Rattle.listing.specs.Listing.{imageByte, shownAt, lineAt, listedBytes, listingFrom}
 use Rattle.listing.proofs.Laws.{Item, data-byte, whole, item-at, bytes-bounds, listing-more, listing-done}
 use Rattle.assembling.specs.declared.Due.{Due}
 use Rattle.assembling.specs.declared.Due.the-variants.{Anywhere, At}
@@ -53,8 +53,8 @@ module _ (image : List ℕ) (last : ℕ) (size : length image ≡ 65536) (small 
       item-back a (imageByte image a) (imageByte image (a + 1)) (imageByte image (a + 2)) (omega arith) (small a) (small (a + 1)) (small (a + 2)) rest i e (omega arith)
 
   -- a line of the listing is read again as its bytes
-  line-again : (a : ℕ) → a ≤ last → (rest : List ℕ) → lineIn (lineAt image last a ++ rest) ≡ Line (pieceAt a (lengthAt image last a)) (length (lineAt image last a))
-  unfolding lineAt lengthAt
+  line-again : (a : ℕ) → a ≤ last → (rest : List ℕ) → lineIn (lineAt image last a ++ rest) ≡ Line (pieceAt a (listedBytes image last a)) (length (lineAt image last a))
+  unfolding lineAt listedBytes
   line-again a h rest = shown-back a h rest (item-at image last a)
 
   abbrev listed : ℕ → List ℕ
@@ -79,7 +79,7 @@ module _ (image : List ℕ) (last : ℕ) (size : length image ≡ 65536) (small 
           rw (listing-done image last a m, z) (text-done due line)
       by ih false e =
           let m = ltb-false last a e in
-          let n = lengthAt image last a in
+          let n = listedBytes image last a in
           let b = bytes-bounds image last a m in
           ap (λ (w : List ℕ). textFrom w due line) (listing-more image last a m)
           ∙ text-line (lineAt image last a) (listingFrom image last (a + n)) (pieceAt a n) due line (line-again a m (listingFrom image last (a + n))) f
@@ -96,7 +96,7 @@ module _ (image : List ℕ) (last : ℕ) (size : length image ≡ 65536) (small 
   line-some a h e =
       let d = shownAt image last a in
       let m = ap (λ (l : List ℕ). length l) (listing-more image last a h) in
-      let n = length-append (lineAt image last a) (listingFrom image last (a + lengthAt image last a)) in
+      let n = length-append (lineAt image last a) (listingFrom image last (a + listedBytes image last a)) in
       let s = item-size a d (imageByte image a) (imageByte image (a + 1)) (imageByte image (a + 2)) in
       let l = item-least d in
       omega arith
@@ -105,7 +105,7 @@ module _ (image : List ℕ) (last : ℕ) (size : length image ≡ 65536) (small 
   unfolding lineAt itemLine
   first-address a h = ap addressIn (listing-more image last a h) ∙ by (shownAt image last a)
     where
-      by : (d : Decoded) → addressIn (itemLine a d (imageByte image a) (imageByte image (a + 1)) (imageByte image (a + 2)) ++ listingFrom image last (a + lengthAt image last a)) ≡ a
+      by : (d : Decoded) → addressIn (itemLine a d (imageByte image a) (imageByte image (a + 1)) (imageByte image (a + 2)) ++ listingFrom image last (a + listedBytes image last a)) ≡ a
       by Undefined = address-back a (omega arith) _ _ _ _ _
       by (Defined i) = address-back a (omega arith) _ _ _ _ _
 

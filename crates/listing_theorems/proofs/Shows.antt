@@ -23,7 +23,7 @@ use Rattle.listing_codes.specs.declared.Read.the-variants.{Bad, Far, Line}
 use Rattle.listing_reading.specs.Reading.{addressIn, columnIn, nameIn, formIn, operandIn, writtenAs, begins, noEnd, isLine, lineIn}
 use Rattle.listing_reading.proofs.Begins.{begins-rest}
 use Rattle.listing_reading.proofs.Whole.{byte-small, word-small}
-use Rattle.listing_theorems.specs.Published.{Writes, Shows}
+use Rattle.listing_theorems.specs.Published.{Writes, ShowsLine}
 use Rattle.listing_theorems.proofs.Known.{nameOf, known-at, found-at}
 use Rattle.listing_theorems.proofs.Back.{any-back}
 
@@ -54,11 +54,11 @@ name-whole address name form v size =
         fourth (nameOf i) (known-at (codeFor name form) i (f .1) e .no-end) (both (sameName name (nameOf i)) _ (f .0) .0)
 
 module _ (w : List ℕ) (r : Read) (n : r ≡ Bad → ⊥) where
-  read-shows : lineIn w ≡ r → Shows w r
+  read-shows : lineIn w ≡ r → ShowsLine w r
   unfolding lineIn
-  read-shows = cases (λ (x : Read). x ≡ r → Shows w r) (isLine w) yes (λ _ e. absurd (n (sym e)))
+  read-shows = cases (λ (x : Read). x ≡ r → ShowsLine w r) (isLine w) yes (λ _ e. absurd (n (sym e)))
     where
-      yes : isLine w ≡ true → codedOf (addressIn w) (nameIn w) (formIn w) (operandIn (formIn w) w) (length (writtenAs w)) ≡ r → Shows w r
+      yes : isLine w ≡ true → codedOf (addressIn w) (nameIn w) (formIn w) (operandIn (formIn w) w) (length (writtenAs w)) ≡ r → ShowsLine w r
       yes t e =
           let b = both (begins w (writtenAs w)) (noEnd (columnIn w)) t in
           record {
@@ -77,21 +77,21 @@ module _ (w : List ℕ) (r : Read) (n : r ≡ Bad → ⊥) where
             comes = e;
           }
 
-  shows-read : Shows w r → lineIn w ≡ r
+  shows-read : ShowsLine w r → lineIn w ≡ r
   shows-read s =
       let f = name-whole (s .address) (s .name) (s .form) (s .operand) _ (λ b. n (sym (s .comes) ∙ b)) in
       ap lineIn (s .line) ∙ any-back (s .address) (s .below) (s .column) (s .eight) (s .unbroken) (s .name) (s .four) f (s .rest) (s .form) (s .operand) (s .written)
       ∙ s .comes
 
   -- the reader takes a text for r exactly where it begins with a line that comes to r
-  pub reads : (lineIn w ≡ r) ↔ Shows w r
+  pub reads : (lineIn w ≡ r) ↔ ShowsLine w r
   reads = (read-shows, shows-read)
 
 -- .. and for no line exactly where it begins with none
-pub not-of-the-form : (w : List ℕ) → (lineIn w ≡ Bad) ↔ ((r : Read) → (r ≡ Bad → ⊥) → Shows w r → ⊥)
+pub not-of-the-form : (w : List ℕ) → (lineIn w ≡ Bad) ↔ ((r : Read) → (r ≡ Bad → ⊥) → ShowsLine w r → ⊥)
 not-of-the-form w = (λ e r n s. n (sym (shows-read w r n s) ∙ e), λ f. by f (lineIn w) refl)
   where
-    by : ((r : Read) → (r ≡ Bad → ⊥) → Shows w r → ⊥) → (r : Read) → lineIn w ≡ r → lineIn w ≡ Bad
+    by : ((r : Read) → (r ≡ Bad → ⊥) → ShowsLine w r → ⊥) → (r : Read) → lineIn w ≡ r → lineIn w ≡ Bad
     by f Bad e = e
     by f (Far a) e = let n : Far a ≡ Bad → ⊥ = λ z. apart cc in absurd (f (Far a) n (read-shows w (Far a) n e))
     by f (Line p k) e = let n : Line p k ≡ Bad → ⊥ = λ z. apart cc in absurd (f (Line p k) n (read-shows w (Line p k) n e))

@@ -22,7 +22,7 @@ Writes Word v = v < 65536
 Writes Indexed v = v < 256
 
 -- a text begins with a line, which comes to r
-pub record Shows (w : List ℕ) (r : Read) : Type 0 where
+pub record ShowsLine (w : List ℕ) (r : Read) : Type 0 where
   pub address : ℕ
   pub column : List ℕ
   pub name : List ℕ

@@ -14,10 +14,10 @@ use Rattle.assembling.specs.declared.Fault.the-variants.{Malformed, TooFar}
 use Rattle.assembling.specs.Assembling.{pieceBytes, follows, dueNext}
 
 -- the first k lines of a text are each of the published form and follow on: their bytes, the text after them, and where its first line has to be
-pub data Goes : List ℕ → Due → ℕ → List ℕ → List ℕ → Due → Type 0 where
-  here : {text : List ℕ} {due : Due} → Goes text due 0 [] text due
+pub data GoesOn : List ℕ → Due → ℕ → List ℕ → List ℕ → Due → Type 0 where
+  here : {text : List ℕ} {due : Due} → GoesOn text due 0 [] text due
   onward : {text bytes rest : List ℕ} {due due′ : Due} {k : ℕ} (p : Piece) (size : ℕ) → lineIn text ≡ Line p size → follows due (p .address) ≡ true
-      → Goes (drop size text) (dueNext p) k bytes rest due′ → Goes text due (suc k) (pieceBytes p ++ bytes) rest due′
+      → GoesOn (drop size text) (dueNext p) k bytes rest due′ → GoesOn text due (suc k) (pieceBytes p ++ bytes) rest due′
 
 -- "13, a line not of the published form or not following on; 14, a branch target beyond its offset", of one that follows on
 abbrev pub Faulty : Fault → List ℕ → Due → Type 0
@@ -29,7 +29,7 @@ pub record Stopped (text : List ℕ) (due : Due) (fault : Fault) (k : ℕ) : Typ
   pub bytes : List ℕ
   pub rest : List ℕ
   pub due′ : Due
-  pub goes : Goes text due k bytes rest due′
+  pub goes : GoesOn text due k bytes rest due′
   pub some : 0 < length rest
   pub faulty : Faulty fault rest due′
 
@@ -37,4 +37,4 @@ pub record Stopped (text : List ℕ) (due : Due) (fault : Fault) (k : ℕ) : Typ
 pub record Through (text : List ℕ) (due : Due) (bytes : List ℕ) : Type 0 where
   pub lines : ℕ
   pub due′ : Due
-  pub goes : Goes text due lines bytes [] due′
+  pub goes : GoesOn text due lines bytes [] due′
