@@ -180,7 +180,7 @@ uint32_t pliruzza_list(const uint8_t *image, size_t image_length, uint32_t first
 /* The bytes of a listing's text, its bytes column not read. They go to the front of `buffer`; bytes after them are unchanged.
  * Returns 29, 13, 14 or 23, and leaves `buffer` as it was; else 0. The result, little-endian; bytes after it are unchanged, and all of it by 29 and 23:
  *    0  for 0 how many bytes there are, for 13 and 14 the line's number, counted from 1 (8)
- *    8  for 0 the first line's address, 0 of an empty text (8)
+ *    8  for 0 the first line's address, 0 of an empty text (8); unchanged by 13 and 14
  */
 uint32_t pliruzza_assemble(const uint8_t *text, size_t text_length, uint8_t *buffer, size_t buffer_length, uint8_t *result, size_t result_length);
 

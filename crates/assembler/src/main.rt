@@ -21,21 +21,13 @@ fn sync(fd: i32) -> bool {
     (synced == 0) & (closed == 0)
 }
 
-fn sync_folder(name: &[u8]) -> bool {
-    let fd = os::open_read(name);
-    if fd < 0 {
-        return false;
-    }
-    sync(fd)
-}
-
-// The folder in which a file lies.
-fn sync_home(name: &[u8]) -> bool {
+// The folder in which a file lies, open.
+fn open_home(name: &[u8]) -> i32 {
     let at = night_names::last_at(name);
     if at == 0 {
-        return sync_folder(b".");
+        return os::open_read(b".");
     }
-    sync_folder(&name[..at])
+    os::open_read(&name[..at])
 }
 
 // A new file of this name holds the bytes, and so on the device; or there is none.
@@ -53,17 +45,27 @@ fn make(name: &[u8], bytes: &[u8]) -> bool {
 }
 
 // The file of this name holds the bytes: made as BYTES.new, and put in its place.
-fn keep(name: &[u8], bytes: &[u8]) -> bool {
+fn put(name: &[u8], bytes: &[u8]) -> bool {
     let mut path = io::buffer();
     let n = night_arguments::joined(name, b".new", &mut path);
     if !make(&path[..n], bytes) {
         return false;
     }
-    if os::rename(&path[..n], name) != 0 {
-        os::unlink(&path[..n]);
+    if os::rename(&path[..n], name) == 0 {
+        return true;
+    }
+    os::unlink(&path[..n]);
+    false
+}
+
+// The same, and so on the device. A folder that cannot be opened is told before the file is replaced.
+fn keep(name: &[u8], bytes: &[u8]) -> bool {
+    let home = open_home(name);
+    if home < 0 {
         return false;
     }
-    sync_home(name)
+    let placed = put(name, bytes);
+    sync(home) & placed
 }
 
 fn tell(name: &[u8], bytes: &[u8], answer: Assembled) {
@@ -84,10 +86,11 @@ fn assemble(name: &[u8], text: &[u8]) {
     }
 }
 
-// Whether an open file of which so much was read can be read on.
-fn is_readable(fd: i32) -> bool {
+// Whether an open file has ended, or has more than the buffer could take.
+fn is_read(fd: i32, full: bool) -> bool {
     let mut byte = [0u8; 1];
-    libc::read(fd, &mut byte) >= 0
+    let got = libc::read(fd, &mut byte);
+    (got == 0) | (full & (got > 0))
 }
 
 fn assemble_file(listing: &[u8], name: &[u8]) {
@@ -98,9 +101,9 @@ fn assemble_file(listing: &[u8], name: &[u8]) {
     }
     let mut text = text_buffer();
     let n = io::read_full(fd, &mut text);
-    let readable = is_readable(fd);
+    let read = is_read(fd, n == 1638428);
     libc::close(fd);
-    if !readable {
+    if !read {
         refuse(33);
         return;
     }

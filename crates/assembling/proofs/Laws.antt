@@ -25,8 +25,10 @@ use Rattle.assembling.specs.declared.Step.the-variants.{Stops, Takes}
 use Rattle.assembling.specs.declared.Fault.{Fault}
 use Rattle.assembling.specs.declared.Fault.the-variants.{Malformed, TooFar}
 use Rattle.assembling.specs.declared.Checked.the-variants as checked
+use Rattle.assembling.specs.declared.Assembled.{Assembled}
 use Rattle.assembling.specs.Assembling.{pieceBytes, follows, dueNext, lineStep, Outcome, bad, good, _then_, onStep, assembledFrom, textFrom, outcomeOf}
-use Rattle.assembling.specs.Assembling.{AssembleReply, wrote, nothing, refuses, lineFaultNumber, assembleAnswer, assembleBuffer, bytesIn, checkedOf}
+use Rattle.assembling.specs.Checks.{checkedOf, refusalOf}
+use Rattle.assembling.specs.Assembling.{AssembleReply, wrote, nothing, refuses, lineFaultNumber, toldAssembled, assembleAnswer, assembleBuffer, bytesIn}
 
 -- a line that is taken was read and follows on
 pub taken : (r : Read) (due : Due) (p : Piece) (n : ℕ) → lineStep r due ≡ Takes p n → (r ≡ Line p n) × (follows due (p .address) ≡ true)
@@ -236,6 +238,10 @@ pub counted-good : (o : Outcome) {n : ℕ} → checked.Sound n ≡ checkedOf 0 o
 counted-good (bad f l) e = apart cc
 counted-good (good bytes) {n} e = let z : 0 + length bytes ≡ n = cc in (refl, sym (zero-add (length bytes)) ∙ z)
 
+told-refusal : (fault : Fault) (line : ℕ) → toldAssembled (refusalOf fault line) ≡ refuses (told (lineFaultNumber fault) (some line))
+told-refusal Malformed line = refl
+told-refusal TooFar line = refl
+
 -- the answers
 module _ (text buffer : List ℕ) where
   abbrev pub Answers : AssembleReply → List ℕ → Type 0
@@ -246,10 +252,11 @@ module _ (text buffer : List ℕ) where
   answer-empty e = rw (eq-eqb (length text) 0 e) (refl, refl)
 
   module _ (h : length text ≡ 0 → ⊥) where
-    pub answer-bad : {fault : Fault} {line : ℕ} → checked.Bad fault line ≡ checkedOf 0 (outcomeOf text)
-        → Answers (refuses (told (lineFaultNumber fault) (some line))) buffer
+    pub answer-bad : {fault : Fault} {line : ℕ} {a : Assembled} → checked.Bad fault line ≡ checkedOf 0 (outcomeOf text) → a ≡ refusalOf fault line
+        → Answers (toldAssembled a) buffer
     unfolding assembleAnswer assembleBuffer
-    answer-bad e = rw (ne-eqb (length text) 0 h, counted-bad (outcomeOf text) e) (refl, refl)
+    answer-bad {fault} {line} e f =
+        rw (f, told-refusal fault line) (rw (ne-eqb (length text) 0 h, counted-bad (outcomeOf text) e) (refl, refl))
 
     pub answer-full : {n : ℕ} → checked.Sound n ≡ checkedOf 0 (outcomeOf text) → length buffer < n → Answers (refuses (told 23 none)) buffer
     unfolding assembleAnswer assembleBuffer

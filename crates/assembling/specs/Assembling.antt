@@ -17,8 +17,6 @@ use Rattle.assembling.specs.declared.Step.{Step}
 use Rattle.assembling.specs.declared.Step.the-variants.{Stops, Takes}
 use Rattle.assembling.specs.declared.Fault.{Fault}
 use Rattle.assembling.specs.declared.Fault.the-variants.{Malformed, TooFar}
-use Rattle.assembling.specs.declared.Checked.{Checked}
-use Rattle.assembling.specs.declared.Checked.the-variants as checked
 use Rattle.assembling.specs.declared.Assembled.{Assembled}
 use Rattle.assembling.specs.declared.Assembled.the-variants as assembled
 
@@ -81,7 +79,8 @@ lineFaultNumber TooFar = 14
 abbrev pub toldAssembled : Assembled → AssembleReply
 toldAssembled (assembled.Wrote first n) = wrote first n
 toldAssembled assembled.Empty = nothing
-toldAssembled (assembled.Bad fault line) = refuses (told (lineFaultNumber fault) (some line))
+toldAssembled (assembled.Malformed line) = refuses (told 13 (some line))
+toldAssembled (assembled.TooFar line) = refuses (told 14 (some line))
 toldAssembled assembled.NoRoom = refuses (told 23 none)
 
 abbrev pub outcomeAnswer : Outcome → List ℕ → List ℕ → AssembleReply
@@ -104,8 +103,3 @@ assembledBuffer (refuses t) bytes buffer = buffer
 
 unfoldable pub assembleBuffer : List ℕ → List ℕ → List ℕ
 assembleBuffer text buffer = assembledBuffer (assembleAnswer text buffer) (bytesIn (outcomeOf text)) buffer
-
--- the first pass of the code: the fault, or how many bytes a text has after n
-abbrev pub checkedOf : ℕ → Outcome → Checked
-checkedOf n (bad fault line) = checked.Bad fault line
-checkedOf n (good bytes) = checked.Sound (n + length bytes)

@@ -6,8 +6,9 @@ ghost use Prim.Native.Nat.{_+_, _≤_};
 ghost use lib.ListN.{length};
 ghost use lib.Seq.{sets};
 ghost use Rattle.listing_codes.specs.Keys.{Keys};
-ghost use Rattle.assembling.specs.Assembling.{pieceBytes, follows, lineStep, outcomeOf, good, bytesIn, checkedOf};
-ghost use Rattle.assembling.specs.Assembling.{lineFaultNumber, toldAssembled, assembleAnswer, assembleBuffer};
+ghost use Rattle.assembling.specs.Assembling.{pieceBytes, follows, lineStep, outcomeOf, good, bytesIn};
+ghost use Rattle.assembling.specs.Checks.{checkedOf, refusalOf};
+ghost use Rattle.assembling.specs.Assembling.{toldAssembled, assembleAnswer, assembleBuffer};
 
 // Where the next line has to be.
 pub enum Due {
@@ -15,22 +16,10 @@ pub enum Due {
     At(u32),
 }
 
-// A line that is not of the published form or does not follow on; a branch target beyond its offset.
+// What is wrong with a line: it is not of the published form or does not follow on; its branch target is beyond its offset.
 pub enum Fault {
     Malformed,
     TooFar,
-}
-
-impl Fault {
-    // 13 or 14.
-    pub fn number(self) -> u8
-        ensures { λ r. ⌜ r ≡ lineFaultNumber self ⌝ }
-    {
-        match self {
-            Fault::Malformed => 13,
-            Fault::TooFar => 14,
-        }
-    }
 }
 
 // What one line does: the text is refused, or the line's bytes and characters are taken.
@@ -50,7 +39,8 @@ pub enum Checked {
 pub enum Assembled {
     Wrote(u16, usize),
     Empty,
-    Bad(Fault, usize),
+    Malformed(usize),
+    TooFar(usize),
     NoRoom,
 }
 
@@ -145,6 +135,15 @@ fn write(keys: &[u64], text: &[u8], buffer: &mut [u8])
     }
 }
 
+fn refusal(fault: Fault, line: usize) -> Assembled
+    ensures { λ r. ⌜ r ≡ refusalOf fault line ⌝ }
+{
+    match fault {
+        Fault::Malformed => Assembled::Malformed(line),
+        Fault::TooFar => Assembled::TooFar(line),
+    }
+}
+
 // The bytes of a listing's text at the buffer's front.
 pub fn assemble(text: &[u8], buffer: &mut [u8]) -> Assembled
     ensures { λ r. ⌜ (toldAssembled r ≡ assembleAnswer (now (text .entry)) (now (buffer .entry)))
@@ -156,7 +155,7 @@ pub fn assemble(text: &[u8], buffer: &mut [u8]) -> Assembled
     let keys = listing_codes::keys();
     let checked = check(&keys, text);
     match checked {
-        Checked::Bad(fault, line) => Assembled::Bad(fault, line),
+        Checked::Bad(fault, line) => refusal(fault, line),
         Checked::Sound(n) => {
             if buffer.len() < n {
                 return Assembled::NoRoom;

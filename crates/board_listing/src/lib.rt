@@ -52,7 +52,8 @@ pub fn assemble(text: &[u8], buffer: &mut [u8], result: &mut [u8]) -> u32
             tell_span(0, 0, result);
             0
         }
-        Assembled::Bad(fault, line) => board_results::tell(fault.number() as u32, line, result),
+        Assembled::Malformed(line) => board_results::tell(13, line, result),
+        Assembled::TooFar(line) => board_results::tell(14, line, result),
         Assembled::NoRoom => 23,
     }
 }

@@ -36,10 +36,11 @@ fn list(image: &[u8], first: u32, last: u32) {
     }
 }
 
-// Whether an open file of which so much was read can be read on.
-fn is_readable(fd: i32) -> bool {
+// Whether an open file has ended, or has more than the buffer could take.
+fn is_read(fd: i32, full: bool) -> bool {
     let mut byte = [0u8; 1];
-    libc::read(fd, &mut byte) >= 0
+    let got = libc::read(fd, &mut byte);
+    (got == 0) | (full & (got > 0))
 }
 
 fn list_file(name: &[u8], first: u32, last: u32) {
@@ -50,9 +51,9 @@ fn list_file(name: &[u8], first: u32, last: u32) {
     }
     let mut image = image_buffer();
     let n = io::read_full(fd, &mut image);
-    let readable = is_readable(fd);
+    let read = is_read(fd, n == 65537);
     libc::close(fd);
-    if !readable {
+    if !read {
         refuse(33);
         return;
     }

@@ -31,7 +31,8 @@ pub fn assembled_line(answer: Assembled) -> Line
     match answer {
         Assembled::Wrote(first, n) => wrote_line(first, n),
         Assembled::Empty => Line::empty().text(b"assembled 0 bytes\n"),
-        Assembled::Bad(fault, line) => bad_line(fault.number(), line),
+        Assembled::Malformed(line) => bad_line(13, line),
+        Assembled::TooFar(line) => bad_line(14, line),
         Assembled::NoRoom => lines::refused(23).text(b"\n"),
     }
 }

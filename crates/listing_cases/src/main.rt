@@ -1,7 +1,6 @@
 // The lister and the assembler at their edges: docs/CASES.md works the expected lines. Standard input has how many ranges and how many texts there are, two
 // bytes each, and then records, each two bytes of length and so many bytes: of a range its first and last address and code, of a text its title and itself.
 use assembling::Assembled;
-use assembling::Fault;
 use listing::Listed;
 use printing::Line;
 ghost use mathlib.Core.Path.{_≡_};
@@ -80,20 +79,14 @@ fn call_list(image: &[u8], first: u32, last: u32, buffer: &mut [u8]) -> usize {
     n
 }
 
-fn with_fault(line: Line, fault: Fault) -> Line {
-    match fault {
-        Fault::Malformed => line.text(b" refused 13"),
-        Fault::TooFar => line.text(b" refused 14"),
-    }
-}
-
 fn with_assembled(line: Line, assembled: Assembled) -> Line {
     match assembled {
         Assembled::Wrote(first, n) => lines::numbered(line, b" wrote ", n as u64)
             .text(b" at ")
             .word(first),
         Assembled::Empty => line.text(b" empty"),
-        Assembled::Bad(fault, k) => lines::numbered(with_fault(line, fault), b" line ", k as u64),
+        Assembled::Malformed(k) => lines::numbered(line, b" refused 13 line ", k as u64),
+        Assembled::TooFar(k) => lines::numbered(line, b" refused 14 line ", k as u64),
         Assembled::NoRoom => line.text(b" refused 23"),
     }
 }

@@ -4,7 +4,7 @@ use listing_lines::Form;
 ghost use mathlib.Core.Path.{_≡_};
 ghost use Prim.Native.Nat.{_≤_, _<_};
 ghost use Rattle.listing_codes.specs.Keys.{Keys};
-ghost use Rattle.listing_reading.specs.Reading.{at, digitIn, twoIn, fourIn, columnIn, blankFor, nameIn, formIn, operandIn, begins, noEnd, lineIn};
+ghost use Rattle.listing_reading.specs.Reading.{at, digitIn, twoIn, fourIn, addressIn, columnIn, blankFor, nameIn, formIn, operandIn, begins, noEnd, lineIn};
 
 // The character in a column, from 1; 0 past the end.
 fn character(line: &[u8], column: usize) -> u8
@@ -48,7 +48,7 @@ fn word_in(line: &[u8], column: usize) -> u16
 
 // The address in a line's first columns.
 pub fn address_in(line: &[u8]) -> u16
-    ensures { λ r. ⌜ r ≡ fourIn (now (line .entry)) 1 ⌝ }
+    ensures { λ r. ⌜ r ≡ addressIn (now (line .entry)) ⌝ }
 {
     word_in(line, 1)
 }

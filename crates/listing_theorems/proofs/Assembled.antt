@@ -29,7 +29,7 @@ use Rattle.assembling.specs.declared.Fault.the-variants.{Malformed, TooFar}
 use Rattle.assembling.specs.declared.Assembled.{Assembled}
 use Rattle.assembling.specs.declared.Assembled.the-variants as assembled
 use Rattle.assembling.specs.Assembling.{pieceBytes, follows, dueNext, Outcome, bad, good, _then_, lineStep, onStep, textFrom, outcomeOf}
-use Rattle.assembling.specs.Assembling.{AssembleReply, wrote, nothing, refuses, toldAssembled, outcomeAnswer, assembleAnswer, bytesIn, assembledBuffer, assembleBuffer}
+use Rattle.assembling.specs.Assembling.{AssembleReply, wrote, nothing, refuses, lineFaultNumber, toldAssembled, outcomeAnswer, assembleAnswer, bytesIn, assembledBuffer, assembleBuffer}
 use Rattle.assembling.proofs.Laws.{text-at, text-done}
 use Rattle.listing_theorems.specs.Texts.{Goes, here, onward, Faulty, Stopped, Through}
 use Rattle.listing_theorems.proofs.Append.{then-none, then-then}
@@ -146,7 +146,7 @@ assembledBack (refuses t) = by (t .named)
   where
     by : Option ℕ → Assembled
     by none = assembled.NoRoom
-    by (some line) = assembled.Bad (cond (eqb (t .number) 13) Malformed TooFar) line
+    by (some line) = cond (eqb (t .number) 13) (assembled.Malformed line) (assembled.TooFar line)
 
 assembled-known : (a b : Assembled) → toldAssembled a ≡ toldAssembled b → a ≡ b
 assembled-known = known toldAssembled assembledBack back
@@ -154,9 +154,26 @@ assembled-known = known toldAssembled assembledBack back
     back : (a : Assembled) → assembledBack (toldAssembled a) ≡ a
     back (assembled.Wrote first n) = refl
     back assembled.Empty = refl
-    back (assembled.Bad Malformed line) = refl
-    back (assembled.Bad TooFar line) = refl
+    back (assembled.Malformed line) = refl
+    back (assembled.TooFar line) = refl
     back assembled.NoRoom = refl
+
+-- the outcome that a refusal of a line tells
+abbrev outcomeBack : AssembleReply → Outcome
+outcomeBack (wrote first n) = good []
+outcomeBack nothing = good []
+outcomeBack (refuses t) = by (t .named)
+  where
+    by : Option ℕ → Outcome
+    by none = good []
+    by (some line) = bad (cond (eqb (t .number) 13) Malformed TooFar) line
+
+abbrev refusing : Fault → ℕ → AssembleReply
+refusing fault line = refuses (told (lineFaultNumber fault) (some line))
+
+bad-back : (fault : Fault) (line : ℕ) → outcomeBack (refusing fault line) ≡ bad fault line
+bad-back Malformed line = refl
+bad-back TooFar line = refl
 
 module _ (text buffer : List ℕ) where
   abbrev pub Answers : AssembleReply → Type 0
@@ -165,7 +182,7 @@ module _ (text buffer : List ℕ) where
   -- each way that the call can go
   answer-cases : (P : AssembleReply → Type 0)
       → (length text ≡ 0 → P nothing)
-      → ((fault : Fault) (line : ℕ) → outcomeOf text ≡ bad fault line → P (toldAssembled (assembled.Bad fault line)))
+      → ((fault : Fault) (line : ℕ) → outcomeOf text ≡ bad fault line → P (refusing fault line))
       → ((bytes : List ℕ) → outcomeOf text ≡ good bytes → length buffer < length bytes → P (refuses (told 23 none)))
       → ((bytes : List ℕ) → (length text ≡ 0 → ⊥) → outcomeOf text ≡ good bytes → length bytes ≤ length buffer → P (wrote (addressIn text) (length bytes)))
       → P (assembleAnswer text buffer)
@@ -193,13 +210,13 @@ module _ (text buffer : List ℕ) where
   )
 
   -- the number of the first faulty line's fault, with that line counted from 1
-  reply-fault : (fault : Fault) (k : ℕ) → Answers (toldAssembled (assembled.Bad fault (suc k))) ↔ Stopped text Anywhere fault k
+  reply-fault : (fault : Fault) (k : ℕ) → Answers (refusing fault (suc k)) ↔ Stopped text Anywhere fault k
   reply-fault fault k = (
     (λ e. stopped-at text fault k .0 (
-        answer-cases (λ a. a ≡ toldAssembled (assembled.Bad fault (suc k)) → outcomeOf text ≡ bad fault (suc k))
+        answer-cases (λ a. a ≡ refusing fault (suc k) → outcomeOf text ≡ bad fault (suc k))
         (λ _ e. apart cc)
-        (λ f line o e. let z = assembled-known (assembled.Bad f line) (assembled.Bad fault (suc k)) e in let i : bad f line ≡ bad fault (suc k) = cc in o ∙ i)
-        (λ _ _ _ e. let z = assembled-known assembled.NoRoom (assembled.Bad fault (suc k)) e in apart cc)
+        (λ f line o e. o ∙ sym (bad-back f line) ∙ ap outcomeBack e ∙ bad-back fault (suc k))
+        (λ _ _ _ e. let z = ap outcomeBack e ∙ bad-back fault (suc k) in apart cc)
         (λ _ _ _ _ e. apart cc)
         e)),
     (λ s. let o = stopped-at text fault k .1 s in answers _ (λ h. let z = empty-good h in apart cc) o),
@@ -236,7 +253,7 @@ module _ (text buffer : List ℕ) where
   reply-23 = (
     answer-cases (λ a. a ≡ refuses (told 23 none) → Longer)
         (λ _ e. apart cc)
-        (λ fault line _ e. let z = assembled-known (assembled.Bad fault line) assembled.NoRoom e in apart cc)
+        (λ fault line _ e. let z = sym (bad-back fault line) ∙ ap outcomeBack e in apart cc)
         (λ bytes o l _. record { bytes = bytes; through = goes-through text bytes .0 o; long = l })
         (λ _ _ _ _ e. apart cc),
     (λ w.

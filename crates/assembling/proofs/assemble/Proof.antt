@@ -15,6 +15,7 @@ assemble-spec =
     (λ c. search needs)  -- slice-aggregate-check
     (λ c κs. search needs)  -- check-requires
     (λ c. search needs)  -- enum-known-checked
+    (λ c κs. search needs)  -- refusal-requires
     (λ c. search needs)  -- enum-known-checked-2
     (λ c.
     let some = c .before .before .before .before .before .before .before in
@@ -29,10 +30,10 @@ assemble-spec =
     (checked .before .before .keys .ensures, g .0, rw (g .1) (c .before .before .if2 .left)))  -- write-requires
     (λ c κs. search needs)  -- address-in-requires
     (λ c.
-    let some = c .before .before .before .before .before .before in
+    let told = c .before .before in
+    let some = told .before .before .before .before .before in
     let a = some .before .before .before .args in
-    answer-bad (a .text .now) (a .buffer .now) (some .if1 .left)
-    (sym (c .before .checked .given .1) ∙ c .before .before .before .check .ensures))  -- returns-3
+    answer-bad (a .text .now) (a .buffer .now) (some .if1 .left) (sym (told .checked .given .1) ∙ told .before .before .check .ensures) (c .refusal .ensures))  -- returns-3
     (λ c. search needs)  -- same-length
     (λ c.
     let some = c .before .before .before .before .before .before .before .before .before .before .before .before .before in

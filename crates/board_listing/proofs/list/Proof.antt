@@ -10,9 +10,7 @@ pub list-spec : {M : Type 1} → statement M
 list-spec =
     tie.close
     (tie.spec
-    (λ c.
-    let a = c .before .before .before .before .args in
-    list-short (a .image .now) (a .first) (a .last) (a .buffer .now) (a .result .now) (c .if1 .taken))  -- returns
+    (λ c. let a = c .before .before .before .before .args in list-short (a .image .now) (a .first) (a .last) (a .buffer .now) (a .result .now) (c .if1 .taken))  -- returns
     (λ c κs. search needs)  -- list-requires
     (λ c. search needs)  -- enum-known-listed
     (λ c κs. search needs)  -- tell-requires
@@ -22,18 +20,23 @@ list-spec =
     (λ c. search needs)  -- same-length
     (λ c. search needs)  -- same-length-2
     (λ c.
-    let a = c .before .before .before .before .before .before .before .before .before .before .before .before .before .before .before .args in
+    let k = c .before .before .before .before .before in
+    let a = k .before .before .before .before .before .before .before .before .before .before .args in
     returned-told _ (a .result .now) _ _ (c .before .before .tell .ensures)
-    ∙ list-left (a .image .now) (a .first) (a .last) (a .buffer .now) (a .result .now) _ (c .before .before .before .before .before .before .before .before .before .before .before .if1 .left) (c .before .before .before .before .before .before .before .before .before .list .ensures) (c .before .before .before .before .before .listed .given .1))  -- returns-2
+    ∙ list-left (a .image .now) (a .first) (a .last) (a .buffer .now) (a .result .now) _
+    (k .before .before .before .before .before .before .if1 .left) (k .before .before .before .before .list .ensures) (k .listed .given .1))  -- returns-2
     (λ c. search needs)  -- same-length-3
     (λ c.
     let a = c .before .before .before .before .before .before .before .before .before .before .args in
-    list-left (a .image .now) (a .first) (a .last) (a .buffer .now) (a .result .now) _ (c .before .before .before .before .before .before .if1 .left) (c .before .before .before .before .list .ensures) (c .enum-told .given .1))  -- returns-3
+    list-left (a .image .now) (a .first) (a .last) (a .buffer .now) (a .result .now) _
+    (c .before .before .before .before .before .before .if1 .left) (c .before .before .before .before .list .ensures) (c .enum-told .given .1))  -- returns-3
     (λ c. search needs)  -- same-length-4
     (λ c.
     let a = c .before .before .before .before .before .before .before .before .before .before .args in
-    list-left (a .image .now) (a .first) (a .last) (a .buffer .now) (a .result .now) _ (c .before .before .before .before .before .before .if1 .left) (c .before .before .before .before .list .ensures) (c .enum-told2 .given .1))  -- returns-4
+    list-left (a .image .now) (a .first) (a .last) (a .buffer .now) (a .result .now) _
+    (c .before .before .before .before .before .before .if1 .left) (c .before .before .before .before .list .ensures) (c .enum-told2 .given .1))  -- returns-4
     (λ c. search needs)  -- same-length-5
     (λ c.
     let a = c .before .before .before .before .before .before .before .before .before .before .args in
-    list-left (a .image .now) (a .first) (a .last) (a .buffer .now) (a .result .now) _ (c .before .before .before .before .before .before .if1 .left) (c .before .before .before .before .list .ensures) (c .enum-told3 .given .1)))  -- returns-5
+    list-left (a .image .now) (a .first) (a .last) (a .buffer .now) (a .result .now) _
+    (c .before .before .before .before .before .before .if1 .left) (c .before .before .before .before .list .ensures) (c .enum-told3 .given .1)))  -- returns-5

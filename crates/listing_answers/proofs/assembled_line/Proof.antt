@@ -17,13 +17,15 @@ assembled-line-spec =
     (λ c. search needs)  -- slice-aggregate-text
     (λ c κs. search needs)  -- text-requires
     (λ c. search needs)  -- enum-known-answer-2
-    (λ c κs. search needs)  -- number-requires
     (λ c κs. search needs)  -- bad-line-requires
+    (λ c. search needs)  -- enum-known-answer-3
+    (λ c κs. search needs)  -- bad-line-requires-2
     (λ c. search needs)  -- enum-told-2
     (λ c κs. search needs)  -- refused-requires
     (λ c. search needs)  -- slice-aggregate-text-2
     (λ c κs. search needs)  -- text-requires-2
     (λ c. rw (c .before .before .answer .given .1) (c .wrote-line .ensures))  -- returns
     (λ c. rw (c .before .before .before .enum-told .given .1, ← c .before .before .empty .ensures) (c .text .ensures))  -- returns-2
-    (λ c. rw (c .before .before .before .answer2 .given .1, ← c .before .number .ensures) (c .bad-line .ensures))  -- returns-3
-    (λ c. rw (c .before .before .before .enum-told2 .given .1) (puts-then _ _ _ (c .before .before .refused .ensures) (c .text2 .ensures))))  -- returns-4
+    (λ c. rw (c .before .before .answer2 .given .1) (c .bad-line .ensures))  -- returns-3
+    (λ c. rw (c .before .before .answer3 .given .1) (c .bad-line2 .ensures))  -- returns-4
+    (λ c. rw (c .before .before .before .enum-told2 .given .1) (puts-then _ _ _ (c .before .before .refused .ensures) (c .text2 .ensures))))  -- returns-5

@@ -24,7 +24,9 @@ call-back-spec =
     (λ c. search needs)  -- slice-aggregate-text-2
     (λ c κs. search needs)  -- text-requires-2
     (λ c κs. search needs)  -- print-requires
-    (λ c. c .before .before .before .before .before .before .before .before .before .before .before .before .before .before .before .before .before .before .before .assemble .kept .1 .0)  -- same-length
+    (λ c.
+    let k = c .before .before .before .before .before .before .before .before .before .before in
+    k .before .before .before .before .before .before .before .before .before .assemble .kept .1 .0)  -- same-length
     (λ c. search needs)  -- returns
     (λ c. search needs)  -- same-length-2
     (λ c. search needs))  -- returns-2
