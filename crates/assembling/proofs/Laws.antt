@@ -7,11 +7,11 @@ use mathlib.Core.Bool.{Bool, true, false, cond}
 use mathlib.Core.List.{List, [], _∷_, _++_}
 use mathlib.Core.Option.{none, some}
 use lib.ListN.{length, take, drop, length-drop, length-append, drop-of-length-le}
-use lib.Seq.{sets, sets-eq, drop-append-seam, drop-drop, length-take-le}
+use lib.Seq.{sets, drop-append-seam, drop-drop, length-take-le}
 use borrow.Author.Tests.{eq-eqb, ne-eqb, lt-ltb, le-ltb}
 use Rattle.laws.proofs.Apart.{apart}
 use Rattle.laws.proofs.Lists.{sets-append, take-rest}
-use Rattle.numbers.specs.Numbers.{over}
+use Rattle.numbers.proofs.Laws.{sets-over}
 use Rattle.replies.specs.Replies.{told}
 use Rattle.listing_codes.specs.declared.Piece.{Piece}
 use Rattle.listing_codes.specs.declared.Read.{Read}
@@ -237,9 +237,6 @@ counted-bad (good bytes) e = apart cc
 pub counted-good : (o : Outcome) {n : ℕ} → checked.Sound n ≡ checkedOf 0 o → Good o × (length (bytesIn o) ≡ n)
 counted-good (bad f l) e = apart cc
 counted-good (good bytes) {n} e = let z : 0 + length bytes ≡ n = cc in (refl, sym (zero-add (length bytes)) ∙ z)
-
-pub sets-over : (bytes buffer : List ℕ) → length bytes ≤ length buffer → sets buffer 0 bytes ≡ over bytes buffer
-sets-over bytes buffer h = let g : 0 + length bytes ≤ length buffer = omega arith in sets-eq bytes buffer 0 g ∙ ap (λ (k : ℕ). bytes ++ drop k buffer) (zero-add (length bytes))
 
 told-refusal : (fault : Fault) (line : ℕ) → toldAssembled (refusalOf fault line) ≡ refuses (told (lineFaultNumber fault) (some line))
 told-refusal Malformed line = refl

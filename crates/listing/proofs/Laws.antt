@@ -1,19 +1,18 @@
 -- The laws of a listing: what is listed at an address, its first line and then the listing after it, how a line is counted and written. Assumes nothing.
 use Prim.Native.Nat.{ℕ, zero, suc, _+_, _-_, _≤_, _<_}
-use native.Mathlib.Nat.{zero-add}
 use native.Mathlib.Omega.{arith}
 use mathlib.Core.Path.{_≡_, refl, sym, ap, _∙_}
 use mathlib.Core.Logic.{_⊎_, inl, inr}
 use mathlib.Core.Bool.{Bool, true, false, cond, not}
 use mathlib.Core.List.{List, [], _++_}
 use lib.Dec.{ltb}
-use lib.ListN.{length, drop, length-append}
-use lib.Seq.{sets, sets-eq}
+use lib.ListN.{length, length-append}
+use lib.Seq.{sets}
 use borrow.Author.Tests.{lt-ltb, le-ltb, ltb-true, ltb-false, eq-eqb, ne-eqb}
 use Rattle.laws.proofs.Bools.{neither}
 use Rattle.laws.proofs.Conds.{picks, passes}
 use Rattle.laws.proofs.Lists.{sets-append}
-use Rattle.numbers.specs.Numbers.{over}
+use Rattle.numbers.proofs.Laws.{sets-over}
 use Rattle.opcodes.specs.Opcodes.{decodeOf}
 use Rattle.opcodes.specs.declared.Instruction.{Instruction}
 use Rattle.opcodes.specs.declared.Decoded.{Decoded}
@@ -134,12 +133,6 @@ module _ (image : List ℕ) (last : ℕ) where
   pub writes-done : (at : ℕ) (buffer : List ℕ) {address : ℕ} → last < address → sets buffer at (listingFrom image last address) ≡ buffer
   writes-done at buffer {address} h = rw (listing-done address h)
 
--- a text at a buffer's front
-front-over : (text buffer : List ℕ) → length text ≤ length buffer → sets buffer 0 text ≡ over text buffer
-front-over text buffer h =
-    let e = zero-add (length text) in
-    sets-eq text buffer 0 (omega arith) ∙ ap (λ (k : ℕ). text ++ drop k buffer) e
-
 -- a range that is not refused
 pub good-range : (first last : ℕ) → isBadRange first last ≡ false → (first ≤ last) × (last < 65536)
 good-range first last e =
@@ -180,4 +173,4 @@ module _ (image : List ℕ) (first last : ℕ) (buffer : List ℕ) where
       wrote h f =
           let l : length text ≤ length buffer = omega arith in
           let w = ends (passes _ _ (ap not (eq-eqb _ _ right)) ∙ passes _ _ good ∙ passes _ _ (le-ltb _ _ l)) in
-          (ap gives e ∙ w .0, f ∙ front-over text buffer l ∙ w .1)
+          (ap gives e ∙ w .0, f ∙ sets-over text buffer l ∙ w .1)

@@ -1,13 +1,13 @@
--- The laws of numbers in bytes: a number put byte by byte, numbers put one after the other into a lent buffer, and that a
+-- The laws of numbers in bytes: a number put byte by byte, bytes at the front of a lent buffer, numbers put one after the other into it, and that a
 -- number is read back. Assumes nothing.
 use Prim.Native.Nat.{ℕ, zero, suc, _+_, _*_, _-_, _/_, _%_, _^_, _≤_, _<_}
-use native.Mathlib.Nat.{pow-suc}
+use native.Mathlib.Nat.{zero-add, pow-suc}
 use native.Mathlib.Numerals.{add-one}
 use native.Mathlib.Omega.{arith}
 use mathlib.Core.List.{List, [], _∷_, _++_, append-assoc, append-nil}
 use mathlib.Core.Path.{_≡_, refl, sym, ap, _∙_}
 use lib.ListN.{length, take, drop, set, length-append, length-drop}
-use lib.Seq.{take-suc-set, take-all, take-at, drop-at, drop-drop, length-take-le}
+use lib.Seq.{sets, sets-eq, take-suc-set, take-all, take-at, drop-at, drop-drop, length-take-le}
 use Rattle.numbers.specs.Numbers.{four, littleEndian, fourBytes, over}
 
 pub length-littleEndian : (w n : ℕ) → length (littleEndian w n) ≡ w
@@ -29,6 +29,12 @@ bytes-more l i k n h p =
 pub bytes-all : (l : List ℕ) (i k n : ℕ) → length l ≤ i → k ≤ i → take i l ++ littleEndian (k - i) n ≡ l
 unfolding littleEndian
 bytes-all l i k n h p = let e : k - i ≡ 0 = omega arith in rw (e, take-all i l h) (append-nil l)
+
+-- bytes stored from a buffer's front on
+pub sets-over : (bytes buffer : List ℕ) → length bytes ≤ length buffer → sets buffer 0 bytes ≡ over bytes buffer
+sets-over bytes buffer h =
+    let e = zero-add (length bytes) in
+    sets-eq bytes buffer 0 (omega arith) ∙ ap (λ (k : ℕ). bytes ++ drop k buffer) e
 
 -- a bytes p over the first ones of a buffer
 pub record Laid (buffer p : List ℕ) (a : ℕ) (l : List ℕ) : Type 0 where
