@@ -1,6 +1,7 @@
 #!/usr/bin/env python3
 """Holds README.md and docs/ to the tree: the files that they name must exist, and the declarations and edits that stand beside a
-file's or a crate's name, as in `crate`: `name`; and every edit must be named. Each edit's `old:` text must stand once in its file.
+file's or a crate's name, as in `crate`: `name`; and every edit must be named. Each edit's `old:` text must stand once in its file. Below
+a file's name, a table whose first column is headed `source` shows lines of that file, in order.
 python3 tools/pages.py     prints what is missing, and how much; status 1 where something is."""
 import glob
 import os
@@ -32,6 +33,14 @@ def look(page):
             files = glob.glob(f"crates/{crate}/*/**/*.antt", recursive=True) + glob.glob(f"crates/{crate}/src/*.rt")
             if files and not os.path.exists(f"crates/{crate}/must-fail/{name}.edit") and not any(declared(f, name) for f in files):
                 missing.append(f"{page}: {crate} has no {name}")
+    for path, rows in re.findall(FILE + r"[^|]*\| source \|.*\n\|[-|]+\n((?:\|.*\n)+)", text):
+        lines = [line.strip() for line in open("crates/" + path)]
+        for shown in re.findall(r"^\| `(.+?)` \|", rows, re.M):
+            line = shown.replace("\\|", "|")
+            if line in lines:
+                lines = lines[lines.index(line) + 1 :]
+            else:
+                missing.append(f"{page}: {path} has no such line there: {line}")
     return text
 
 
