@@ -1,7 +1,7 @@
 #!/usr/bin/env python3
 """Holds README.md and docs/ to the tree: the files that they name must exist, and the declarations and edits that stand beside a
 file's or a crate's name, as in `crate`: `name`; and every edit must be named. Each edit's `old:` text must stand once in its file. Below
-a file's name, a table whose first column is headed `source` shows lines of that file, in order.
+a file's name, a table whose first column is headed `source` shows lines of that file, one after the other.
 python3 tools/pages.py     prints what is missing, and how much; status 1 where something is."""
 import glob
 import os
@@ -12,6 +12,7 @@ os.chdir(os.path.join(os.path.dirname(os.path.abspath(__file__)), ".."))
 missing = []
 NAMES = r"((?:\s*(?:,|and|to)?\s*`[^`]+`)+)"
 FILE = r"`(?:crates/)?([a-z_]+/(?:specs|proofs|src)/[\w/]+\.(?:antt|rt))`"
+SHOWN = r"^\|\s*[Ss]ource\s*\|.*\n\|[-:| ]+\n((?:\|.*\n?)+)"
 
 
 def declared(path, name):
@@ -33,15 +34,22 @@ def look(page):
             files = glob.glob(f"crates/{crate}/*/**/*.antt", recursive=True) + glob.glob(f"crates/{crate}/src/*.rt")
             if files and not os.path.exists(f"crates/{crate}/must-fail/{name}.edit") and not any(declared(f, name) for f in files):
                 missing.append(f"{page}: {crate} has no {name}")
-    for path, rows in re.findall(FILE + r"[^|]*\| source \|.*\n\|[-|]+\n((?:\|.*\n)+)", text):
-        lines = [line.strip() for line in open("crates/" + path)]
-        for shown in re.findall(r"^\| `(.+?)` \|", rows, re.M):
-            line = shown.replace("\\|", "|")
-            if line in lines:
-                lines = lines[lines.index(line) + 1 :]
-            else:
-                missing.append(f"{page}: {path} has no such line there: {line}")
+    for table in re.finditer(SHOWN, text, re.M):
+        shows(page, (re.findall(FILE, text[: table.start()]) or [""])[-1], table[1].splitlines())
     return text
+
+
+def shows(page, path, rows):
+    """Source in a table's first column: the file's lines one after the other, but for blank lines and lone braces."""
+    if not os.path.isfile("crates/" + path):
+        missing.append(f"{page}: source below no file's name")
+        return
+    lines = [line.strip() for line in open("crates/" + path) if line.strip() not in ("", "{", "}")] + ["its end"]
+    rows = [re.sub(r"^\| *`(.*?)` *\|.*", r"\1", row).replace("\\|", "|") for row in rows]
+    start = lines.index(rows[0]) if rows[0] in lines else 0
+    for row, line in zip(rows, lines[start:]):
+        if row != line:
+            missing.append(f"{page}: {path} has {line} where it shows {row}")
 
 
 def applies(edit):
