@@ -11,8 +11,9 @@ broken() {
     exit 2
 }
 
+# One at a time, so that two programs in a pipe do not prove over each other.
 prove() {
-    (cd "$root" && rt check "$1") </dev/null >&2 || broken "$1 is not proved"
+    (cd "$root" && flock crates.txt rt check "$1") </dev/null >&2 || broken "$1 is not proved"
 }
 
 # line COMMAND [FILE ARG ..]: the command is given the whole line that runs a program
