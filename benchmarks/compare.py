@@ -19,7 +19,9 @@ UNDEFINED = bytes.fromhex("0002031213141518 1A1C1D1E1F 4142454B4E 515255 5B5E 61
 DEFINED = [op for op in range(256) if op not in UNDEFINED]
 ONE_BYTE = [op for op in DEFINED if op < 0x20 or 0x30 <= op < 0x60]
 RARE = (0x39, 0x3B, 0x3E, 0x35, 0x9D, 0x9E, 0xAE, 0xBE)  # RTS, RTI, WAI, TXS, JSR to the registers, LDS
+RETURNS = (0x39, 0x3B)  # RTS, RTI: as an item whose target is found later, a return through the compare register
 REGISTERS = [0x00, 0x01, 0x02, 0x03, 0x08, 0x09, 0x0A, 0x0B, 0x0C, 0x0D, 0x0E, 0x10, 0x11, 0x12, 0x13, 0x14]
+TIMED = [0x02, 0x03, 0x03, 0x07, 0x08, 0x08, 0x08, 0x09, 0x09, 0x09, 0x0A, 0x0A, 0x0A, 0x0B, 0x0B, 0x0C, 0x0D]  # where the cycle of an access can show
 
 
 def little(n, width):
@@ -51,6 +53,9 @@ class Code:
         self.wild = r.choice([0, 0, 0, 0.01, 0.1])  # how much of it leads nowhere
         self.devices = r.choice([0.05, 0.3, 0.7])
         self.daring = r.choice([0, 0, 0.02, 0.2])
+        self.on_vectors = False  # whether every vector leads on, to the next instruction
+        self.moments = r.choice([0, 0.2, 0.5])
+        self.low = r.choice([0, 0.1, 0.9])  # how often the stack is in the registers, where the code goes anywhere
 
     def inside(self):
         return self.start + self.r.randrange(self.size)
@@ -82,7 +87,7 @@ class Code:
         if row in (7, 0xB, 0xF):
             return bytes([op]) + big(self.place())
         if op == 0x8E:
-            return bytes([op]) + big(r.randrange(0x88, 0x100) if r.random() < 0.9 else self.place())
+            return self.stack() if r.random() < 0.9 else bytes([op]) + big(self.place())
         if row in (8, 0xC) and low in (3, 0xC, 0xE):
             return bytes([op]) + big(r.choice([self.place(), self.inside(), 256 * self.corner() + self.corner()]))
         if row in (8, 0xC):
@@ -115,7 +120,8 @@ class Code:
             return r.choice([
                 lambda: bytes([0x3E]), lambda: bytes([0x0E, 0x3E]), lambda: bytes([0x8E]) + big(r.randrange(0x20)), lambda: bytes([0x9D, 0x12]),
                 lambda: bytes([0x3B]), lambda: 0x7E, lambda: store(0x19, 0x11) + bytes([0x9D, 0x11, 0xD7, 0x13]),
-                lambda: bytes([0xCC, 0x39, 0x39, 0xDD, at, 0x9D, at])])()
+                lambda: bytes([0xCC, 0x39, 0x39, 0xDD, at, 0x9D, at]), lambda: bytes([0xCC, 0x39, 0x39, 0xDD, 0x0B, 0x9D, r.randrange(7, 11)]),
+                lambda: bytes([0x86, r.choice([0x86, 0xC3, 0xCC, 0x96, 0xDC, 0xB6, 0x20, 0x8D]), 0x97, 0x07, 0x9D, 0x07])])()
         return r.choice([
             # the timer
             lambda: store(r.randrange(256), 0x08), lambda: store(r.choice([0x08, 0x0C, 0x1C, 0x1F, 0x04, 0x01]), 0x08), lambda: soon,
@@ -141,14 +147,74 @@ class Code:
             lambda: bytes([0xCE, 0, 0xF0, 0x35]), lambda: bytes([0xB7]) + big(edge) + bytes([0xF6]) + big(edge), lambda: bytes([0x0E]), lambda: bytes([0x0F]),
         ])()
 
+    def stack(self):
+        r = self.r
+        return bytes([0x8E]) + big(r.randrange(5, 0x20) if r.random() < self.low else r.randrange(0x88, 0x100))
+
+    def touch(self, places):
+        """An instruction at one of these registers, by any way to it; what it reads may go to RAM."""
+        r = self.r
+        at = r.choice(places)
+        op = r.choice([0x90, 0xD0]) + r.choice([0, 1, 2, 3, 4, 5, 6, 7, 8, 9, 10, 11, 12, 13, 14, 15, 3, 6, 7, 12, 14, 15])
+        change = r.choice([0x0, 0x3, 0x4, 0x6, 0x7, 0x8, 0x9, 0xA, 0xC, 0xD, 0xF])
+        if op in (0x9D, 0x9E):
+            op += 0x40
+        push = r.choice([b"\x36", b"\x37", b"\x3C", b"\x8D\x00"] + [b"\x0E\x3E", b"\x3E", b"\x3F"] * (self.low > 0.5))
+        way = r.choice([
+            bytes([op, at]), bytes([0xCE, 0, 0, op + 0x10, at]), bytes([op + 0x20, 0, at]),
+            bytes([0xCE, 0, 0, 0x60 + change, at]), bytes([0x70 + change, 0, at]), bytes([0x8E, 0, at]) + push + self.stack(),
+            bytes([0x8E, 0, at - 1, r.choice([0x32, 0x33, 0x38])]) + self.stack(),
+            r.choice([bytes([0x9E, at]), bytes([0xCE, 0, 0, 0xAE, at]), bytes([0xBE, 0, at])]) + bytes([0x9F, r.randrange(0x80, 0xF0)]) + self.stack()])
+        return way + r.choice([b"", bytes([r.choice([0xDD, 0xDF]), r.randrange(0x80, 0xF0)])])
+
+    def moment(self):
+        """Puts the compare register a few counts ahead, or the counter a few before its end, and touches registers about then."""
+        r = self.r
+        store = lambda v, at: bytes([0x86, v, 0x97, at])
+        near = bytes([0xDC, 0x09, 0xC3, 0, r.randrange(7, 26), 0xDD, 0x0B])  # 9 is reached in the last cycle of the STD
+        pushed = bytes([0xC6, r.randrange(7, 22), 0xDE, 0x09, 0x3A, 0x8E, 0, r.randrange(0x0B, 0x10), 0x3F if r.random() < self.low / 3 else 0x3C])
+        before, places = r.choice([
+            (b"", TIMED), (bytes([0x96, 0x08]), TIMED), (store(r.choice([0, 1, 8, 9, 4, 0x0C]), 8), TIMED),
+            (store(2, 1) + store(r.randrange(2), 8), [0x02, 0x03, 0x03, 0x08])])
+        count = r.randrange(3, 14)
+        ahead = r.choice([bytes([0x96, 0x0A, 0x8B, count]), bytes([0xD6, 0x0A, 0xCB, count]), bytes([0xC6, count, 0xDE, 0x09, 0x3A])])
+        set_up = r.choice([
+            near, near, near + bytes([0x96, 0x08]) + near, near + bytes([0x97, 0x80, 0x96, 0x08]) + near, pushed + self.stack(), bytes([0x97, 0x09]), ahead])
+        after = r.choice([b"", b"", bytes([0xD7, 0x0C, 0x96, 0x08, 0x97, r.randrange(0x80, 0xF0)])])
+        return before + set_up + bytes([1]) * r.randrange(4) + b"".join(self.touch(places) for _ in range(r.choice([1, 1, 1, 2, 3]))) + after
+
+    def calling(self, here):
+        """A call of what follows it, with the stack at a timed register; in a timed program also SWI, or a wait that TOF ends."""
+        r = self.r
+        low = bytes([0x8E, 0, r.choice(TIMED)])
+        if self.on_vectors and r.random() < 0.5:
+            low = bytes([0x8E, 0]) + r.choice([bytes([r.randrange(0x08, 0x10), 0x01, 0x3F]), bytes([r.randrange(0x0A, 0x0E), 0x0E, 0x3E])])
+            return bytes([0xCC]) + big(here + 16) + bytes([0xDD, 0x94, 0xCC, 0x0C, 0x0C, 0xCE, 0x0C, 0x0C]) + low + self.stack()
+        return r.choice([
+            low + bytes([0xBD]) + big(here + 6), low + bytes([0xCE]) + big(here + 8) + bytes([0xAD, 0]),
+            bytes([0x86, 0x7E, 0x97, 0x90, 0xCC]) + big(here + 14) + bytes([0xDD, 0x91]) + low + bytes([0x9D, 0x90])]) + self.stack()
+
+    def coded(self):
+        """Executes the timer: TCSR as an opcode with the counter as its operand, or the counter's two bytes as both; RTS in the compare register ends it."""
+        r = self.r
+        returns = bytes([0xCC, 0x39, 0x39, 0xDD, 0x0B])
+        if self.limit > 70000 and r.random() < 0.5:
+            op = r.choice([op for op in DEFINED if op == 0x21 or op >= 0x80 and op not in (0x8D, 0x8E, 0x9D, 0x9E, 0xAD, 0xAE, 0xBD, 0xBE)])
+            return returns + bytes([0x96, 0x09, 0x81, op, 0x26, 0xFA, 0x9D, 0x09])
+        op = r.choice([0x70, 0x73, 0x74, 0x76, 0x79, 0x7A, 0x7C, 0x7D, 0x7F] + [0x83, 0x8C, 0xC3, 0xCC, 0xCE, 0xB1, 0xB6, 0xB7, 0xF3, 0xF9, 0xFC, 0xFE])
+        both = bytes([0xCC, 0xFF, 0xFF, 0xDD, 0x0B, 0x97, 0x09]) + bytes([1]) * 4  # sets TOF and OCF
+        return r.choice([both, both, b""]) + returns + bytes([0x86, op & 31, 0x97, 0x08, 0x96, 0x08, 0x81, op, 0x26, 2, 0x9D, 0x08])
+
     def some(self):
         r = self.r
+        if r.random() < self.moments:
+            return r.choice([self.moment] * 14 + [self.coded] * 2 + [lambda: r.choice(RETURNS)] + [lambda: 0xBD] * 3)()
         return self.device() if r.random() < self.devices else self.operation() if r.random() < 0.2 else self.instruction()
 
     def body(self):
         """Code that goes anywhere, and where its instructions begin."""
         r = self.r
-        items = [bytes([1]) * (self.page * 257 - self.start)]
+        items = [bytes([1]) * (self.page * 257 - self.start)] + [self.stack()] * (self.low > 0)
         while sum(self.width(i) for i in items) < self.size:
             items.append(bytes([r.randrange(256)]) if r.random() < self.wild / 4 else self.some())
         starts, at = [], self.start
@@ -163,9 +229,11 @@ class Code:
 
     @staticmethod
     def width(item):
-        return len(item) if isinstance(item, bytes) else 5 if item in (0x6E, 0xAD) else 3 if item in (0x7E, 0xBD) else 2
+        return len(item) if isinstance(item, bytes) else 12 if item in RETURNS else 5 if item in (0x6E, 0xAD) else 3 if item in (0x7E, 0xBD) else 2
 
     def aimed(self, op, at, starts):
+        if op in RETURNS:
+            return bytes([0xCC]) + big(self.r.choice(starts)) + bytes([0xDD, 0x0B, 0x8E, 0, 0x0A if op == 0x39 else 0x05, op, 0x8E, 0, 0xF0])
         if op in (0x6E, 0xAD):
             offset = self.r.choice([0, 1, 0x80, 0xFF])
             return bytes([0xCE]) + big(self.r.choice(starts) - offset) + bytes([op, offset])
@@ -181,13 +249,15 @@ class Code:
 
     def straight(self, between):
         r = self.r
+        self.low = 0
         out = bytes([0x8E]) + big(r.choice([0xFF, 0xF0] + [0x1FF] * (self.read_only > 0x1FF)))
         out += b"".join(probe + between for probe in self.probes())
         out += bytes([0x86, r.choice([0x08, 0x08, 0x18, 0x09, 0x0A]), 0x97, 0x11]) * r.choice([0, 1, 1])
         while len(out) < self.size:
             item = self.some()
             if not isinstance(item, bytes):
-                item = bytes([item, 0]) if self.width(item) == 2 else b""
+                here = self.start + len(out)
+                item = bytes([item, 0]) if self.width(item) == 2 else self.aimed(item, 0, [here + 9]) if item in RETURNS else self.calling(here)
             if not (item and item[0] in RARE) or r.random() < self.daring:
                 out += item + between
         return out
@@ -213,12 +283,17 @@ class Code:
 
     def traced(self):
         """Goes straight on, after each instruction folds all registers and codes into $00F8, and at the end waits with that in X."""
-        self.size = min(self.size, 600)
+        self.size = min(self.size, 600, 40 + self.limit // 10)
         turn = b"".join(bytes([0xE3, i, 0x58, 0x49, 0xC9, 0]) for i in (0, 2, 3))
         fold = bytes.fromhex("36373C073630DCF8") + turn + bytes.fromhex("DDF8320638333239")
         out = self.straight(bytes([0xBD]) + big(self.start - 64)) + bytes([0x0F, 0xDE, 0xF8, 0x3E])
         self.size = len(out)
         return fold, out
+
+    def timed(self):
+        """A trace of little else than moments, short enough to come to its end; its vectors lead to where $0094 says."""
+        self.size, self.moments, self.devices, self.daring, self.on_vectors = 400, 0.8, 0.05, 0, True
+        return self.traced()
 
     def sender(self):
         """Sends without end, so that the output has no room at last."""
@@ -243,10 +318,10 @@ class Code:
             code = self.waiter()
         elif self.limit > 40000 and r.random() < 0.3:
             code = self.sender()
-        elif way < 0.3:
+        elif way < 0.25:
             code = self.folded()
-        elif way < 0.6:
-            fold, code = self.traced()
+        elif way < 0.65:
+            fold, code = self.timed() if self.limit > 3000 and r.random() < 0.8 else self.traced()
             data += load(self.start - 64, fold)
         else:
             code, starts = self.body()
@@ -263,7 +338,10 @@ class Code:
             return data + load(0xFFF0, bytes(r.randrange(256) for _ in range(16)))
         first = r.randrange(0x20) if r.random() < 0.03 else r.choice([self.start, r.choice(starts)])
         vectors = [r.choice(starts) for _ in range(7)]
-        if len(starts) == 1 or r.random() < 0.5:
+        if self.on_vectors:
+            vectors = [self.start - 192] * 7
+            data += load(self.start - 192, bytes([0x8E, 0x00, 0xF0, 0xDE, 0x94, 0x6E, 0x00])) + load(0x94, big(self.start))
+        elif len(starts) == 1 or r.random() < 0.5:
             more, vectors = self.handlers()
             data += more
         return data + load(0xFFF0, b"".join(map(big, vectors)) + big(first))
@@ -314,7 +392,7 @@ def spoiled(r, records):
 
 def made(r):
     limit = r.randrange(3000000) if r.random() < 0.03 else r.choice(
-        [r.randrange(200), r.randrange(3000), r.randrange(20000), r.randrange(20000), r.randrange(150000) if r.random() < 0.3 else 500])
+        [r.randrange(200), r.randrange(3000), r.randrange(20000), r.randrange(20000), r.choice([r.randrange(150000), 150000]) if r.random() < 0.3 else 500])
     read_only = r.choice(
         [65536, 65536, 57344, 0, r.randrange(65537), r.randrange(0x200, 0x300), r.randrange(0x100),
          r.choice([4, 5, 6, 7, 8, 15, 16, 0x20, 0x80, 0x81, 0xA0, 0xC0, 0xFF, 0x100])])

@@ -1,5 +1,7 @@
 /* A plain emulator of the HD6803 by the rules paper (01), the change requests (02) and the HD6803 sheet (004): one switch over the opcode, waiting
-   cycles passed singly. It is here for comparison only: nothing is proved about it, and nothing else uses it.
+   cycles passed singly. Every access stands in its own cycle (table 12 of 004): a read or write is given its cycle's number, and one below $20 first
+   lets the cycles before that one pass; from $20 on time cannot be seen. What is left of an instruction's cycles passes at its end.
+   It is here for comparison only: nothing is proved about it, and nothing else uses it.
    It reads the bench program's input on standard input and prints the bench program's line. cc -O2 -o emulator emulator.c */
 #include <stdbool.h>
 #include <stdint.h>
@@ -51,6 +53,33 @@ static const uint8_t cycles_of[256] = {
   4, 4, 4, 6, 4, 4, 4, 4,  4, 4, 4, 4, 5, 5, 5, 5,
 };
 
+/* ---- Cycles ---- */
+
+static unsigned passed; /* cycles of the instruction or entry at hand that are over */
+
+static inline void pass(unsigned some) {
+  if ((uint16_t)(m.compare - m.counter - 1) < some) {
+    m.tcsr |= OCF;
+    m.level = m.tcsr & OLVL;
+  }
+  if ((uint16_t)(0xFFFF - m.counter - 1) < some) m.tcsr |= TOF;
+  m.counter += some;
+  m.busy = m.busy > some ? m.busy - some : 0;
+  cycles += some;
+}
+
+/* Goes on to the beginning of a cycle, counted from 1; accesses come in rising cycles. */
+static inline void reach(unsigned cycle) {
+  pass(cycle - 1 - passed);
+  passed = cycle - 1;
+}
+
+/* Ends what takes so many cycles in all. */
+static inline void finish(unsigned taken) {
+  pass(taken - passed);
+  passed = 0;
+}
+
 /* ---- Registers $00 to $1F ---- */
 
 /* What a read of a register gives, without its effects. */
@@ -88,7 +117,8 @@ static void clear_serial(uint8_t flags) {
   m.trcs_armed &= ~flags;
 }
 
-static uint8_t read_register(unsigned at) {
+static uint8_t read_register(unsigned at, unsigned cycle) {
+  reach(cycle);
   uint8_t value = look_register(at);
   switch (at) {
   case 0x08: m.tcsr_armed = m.tcsr & (ICF | OCF | TOF); break;
@@ -100,7 +130,8 @@ static uint8_t read_register(unsigned at) {
   return value;
 }
 
-static void write_register(unsigned at, uint8_t value) {
+static void write_register(unsigned at, uint8_t value, unsigned cycle) {
+  reach(cycle);
   switch (at) {
   case 0x00: m.direction1 = value; break;
   case 0x01: m.direction2 = value & 31; break;
@@ -120,51 +151,51 @@ static void write_register(unsigned at, uint8_t value) {
   }
 }
 
-/* ---- Memory ---- */
+/* ---- Memory: every access in a cycle; of two bytes the second in the next one ---- */
 
 static inline bool at_ram(uint16_t at) { return (at & 0xFF80) == 0x0080; }
 static inline bool in_area(uint16_t at) { return at_ram(at) && !(m.ram_control & 0x40); }
 
-static inline uint8_t read(uint16_t at) {
-  if (at < 0x20) return read_register(at);
+static inline uint8_t read(uint16_t at, unsigned cycle) {
+  if (at < 0x20) return read_register(at, cycle);
   return in_area(at) ? area[at - 0x80] : memory[at];
 }
 
-/* What a read gives, without its effects. */
+/* What a read at the boundary gives, without its effects. */
 static inline uint8_t look(uint16_t at) {
-  return at < 0x20 ? look_register(at) : read(at);
+  return at < 0x20 ? look_register(at) : read(at, 1);
 }
 
-static inline void write(uint16_t at, uint8_t value) {
-  if (at < 0x20) write_register(at, value);
+static inline void write(uint16_t at, uint8_t value, unsigned cycle) {
+  if (at < 0x20) write_register(at, value, cycle);
   else if (in_area(at)) {
     if (at < m.read_only) area[at - 0x80] = value;
   } else if (at < m.read_only || at_ram(at)) memory[at] = value;
 }
 
-static inline uint16_t read2(uint16_t at) {
-  uint8_t high = read(at);
-  return high << 8 | read(at + 1);
+static inline uint16_t read2(uint16_t at, unsigned cycle) {
+  uint8_t high = read(at, cycle);
+  return high << 8 | read(at + 1, cycle + 1);
 }
 
-static inline void write2(uint16_t at, uint16_t value) {
-  write(at, value >> 8);
-  write(at + 1, value);
+static inline void write2(uint16_t at, uint16_t value, unsigned cycle) {
+  write(at, value >> 8, cycle);
+  write(at + 1, value, cycle + 1);
 }
 
-static inline void push(uint8_t value) { write(m.sp--, value); }
-static inline uint8_t pull(void) { return read(++m.sp); }
-static inline void push2(uint16_t value) { push(value); push(value >> 8); }
-static inline uint16_t pull2(void) { uint8_t high = pull(); return high << 8 | pull(); }
+static inline void push(uint8_t value, unsigned cycle) { write(m.sp--, value, cycle); }
+static inline uint8_t pull(unsigned cycle) { return read(++m.sp, cycle); }
+static inline void push2(uint16_t value, unsigned cycle) { push(value, cycle); push(value >> 8, cycle + 1); }
+static inline uint16_t pull2(unsigned cycle) { uint8_t high = pull(cycle); return high << 8 | pull(cycle + 1); }
 
-static inline uint8_t fetch(void) { return read(m.pc++); }
-static inline uint16_t fetch2(void) { uint8_t high = fetch(); return high << 8 | fetch(); }
+static inline uint8_t fetch(unsigned cycle) { return read(m.pc++, cycle); }
 
-/* Where an operand is. */
-static inline uint16_t immediate2(void) { uint16_t at = m.pc; m.pc += 2; return at; }
-static inline uint16_t direct(void) { return fetch(); }
-static inline uint16_t indexed(void) { return m.x + fetch(); }
-static inline uint16_t extended(void) { return fetch2(); }
+/* The bytes after the opcode, and where they say that an operand is. */
+static inline uint8_t immediate(void) { return fetch(2); }
+static inline uint16_t immediate2(void) { uint8_t high = fetch(2); return high << 8 | fetch(3); }
+static inline uint16_t direct(void) { return fetch(2); }
+static inline uint16_t indexed(void) { return m.x + fetch(2); }
+static inline uint16_t extended(void) { return immediate2(); }
 
 /* ---- Arithmetic: each sets the condition codes ---- */
 
@@ -233,19 +264,27 @@ static void daa(void) {
 /* ---- The processor ---- */
 
 static void stack_all(void) {
-  push2(m.pc);
-  push2(m.x);
-  push(m.a);
-  push(m.b);
-  push(m.cc);
+  push2(m.pc, 3);
+  push2(m.x, 5);
+  push(m.a, 7);
+  push(m.b, 8);
+  push(m.cc, 9);
+}
+
+static void pull_all(void) {
+  m.cc = pull(4) | TOP;
+  m.b = pull(5);
+  m.a = pull(6);
+  m.x = pull2(7);
+  m.pc = pull2(9);
 }
 
 static inline void branch(bool taken) {
-  int8_t offset = fetch();
+  int8_t offset = immediate();
   if (taken) m.pc += offset;
 }
 
-static inline void jsr(uint16_t to) { push2(m.pc); m.pc = to; }
+static inline void jsr(uint16_t to, unsigned cycle) { push2(m.pc, cycle); m.pc = to; }
 
 /* Rows 4 to 7: one byte that is changed where it stands. */
 #define MONADIC(row, LOAD, STORE)                                                    \
@@ -263,7 +302,7 @@ static inline void jsr(uint16_t to) { push2(m.pc); m.pc = to; }
 
 #define TO_A(value) (m.a = (value))
 #define TO_B(value) (m.b = (value))
-#define TO_MEMORY(value) write(at, value)
+#define TO_MEMORY(value) write(at, value, 6)
 
 /* Rows 8 to F: an accumulator and a byte. */
 #define DYADIC(row, ACC, BYTE)                                                       \
@@ -289,15 +328,16 @@ static inline void jsr(uint16_t to) { push2(m.pc); m.pc = to; }
   case row | 0xC: set_d(logic16(WORD)); break;                                       \
   case row | 0xE: m.x = logic16(WORD); break;
 
-#define STORES_LOW(row, PLACE)                                                       \
-  case row | 0x7: write(PLACE, logic8(m.a)); break;                                  \
-  case row | 0xD: jsr(PLACE); break;                                                 \
-  case row | 0xF: write2(PLACE, logic16(m.sp)); break;
+/* Their stores, from a cycle on; a call pushes one cycle later. */
+#define STORES_LOW(row, PLACE, CYCLE)                                                \
+  case row | 0x7: write(PLACE, logic8(m.a), CYCLE); break;                           \
+  case row | 0xD: jsr(PLACE, CYCLE + 1); break;                                      \
+  case row | 0xF: write2(PLACE, logic16(m.sp), CYCLE); break;
 
-#define STORES_HIGH(row, PLACE)                                                      \
-  case row | 0x7: write(PLACE, logic8(m.b)); break;                                  \
-  case row | 0xD: write2(PLACE, logic16(d())); break;                                \
-  case row | 0xF: write2(PLACE, logic16(m.x)); break;
+#define STORES_HIGH(row, PLACE, CYCLE)                                               \
+  case row | 0x7: write(PLACE, logic8(m.b), CYCLE); break;                           \
+  case row | 0xD: write2(PLACE, logic16(d()), CYCLE); break;                         \
+  case row | 0xF: write2(PLACE, logic16(m.x), CYCLE); break;
 
 #define NOT_N_XOR_V (!((m.cc >> 3 ^ m.cc >> 1) & 1))
 
@@ -345,55 +385,55 @@ static void execute(uint8_t opcode) {
 
   case 0x30: m.x = m.sp + 1; break;
   case 0x31: m.sp++; break;
-  case 0x32: m.a = pull(); break;
-  case 0x33: m.b = pull(); break;
+  case 0x32: m.a = pull(4); break;
+  case 0x33: m.b = pull(4); break;
   case 0x34: m.sp--; break;
   case 0x35: m.sp = m.x - 1; break;
-  case 0x36: push(m.a); break;
-  case 0x37: push(m.b); break;
-  case 0x38: m.x = pull2(); break;
-  case 0x39: m.pc = pull2(); break;
+  case 0x36: push(m.a, 3); break;
+  case 0x37: push(m.b, 3); break;
+  case 0x38: m.x = pull2(4); break;
+  case 0x39: m.pc = pull2(4); break;
   case 0x3A: m.x += m.b; break;
-  case 0x3B: m.cc = pull() | TOP; m.b = pull(); m.a = pull(); m.x = pull2(); m.pc = pull2(); break;
-  case 0x3C: push2(m.x); break;
+  case 0x3B: pull_all(); break;
+  case 0x3C: push2(m.x, 3); break;
   case 0x3D: set_d(m.a * m.b); codes(C, m.b >> 7); break;
   case 0x3E: stack_all(); m.waiting = true; break;
-  case 0x3F: stack_all(); m.cc |= I; m.pc = read2(VECTOR_SWI); break;
+  case 0x3F: stack_all(); m.cc |= I; m.pc = read2(VECTOR_SWI, 11); break;
 
   MONADIC(0x40, v = m.a, TO_A)
   MONADIC(0x50, v = m.b, TO_B)
-  MONADIC(0x60, at = indexed(); v = read(at), TO_MEMORY)
-  MONADIC(0x70, at = extended(); v = read(at), TO_MEMORY)
+  MONADIC(0x60, at = indexed(); v = read(at, 4), TO_MEMORY)
+  MONADIC(0x70, at = extended(); v = read(at, 4), TO_MEMORY)
   case 0x6E: m.pc = indexed(); break;
   case 0x7E: m.pc = extended(); break;
 
-  DYADIC(0x80, m.a, fetch())
-  DYADIC(0x90, m.a, read(direct()))
-  DYADIC(0xA0, m.a, read(indexed()))
-  DYADIC(0xB0, m.a, read(extended()))
-  DYADIC(0xC0, m.b, fetch())
-  DYADIC(0xD0, m.b, read(direct()))
-  DYADIC(0xE0, m.b, read(indexed()))
-  DYADIC(0xF0, m.b, read(extended()))
-  WIDE_LOW(0x80, read2(immediate2()))
-  WIDE_LOW(0x90, read2(direct()))
-  WIDE_LOW(0xA0, read2(indexed()))
-  WIDE_LOW(0xB0, read2(extended()))
-  WIDE_HIGH(0xC0, read2(immediate2()))
-  WIDE_HIGH(0xD0, read2(direct()))
-  WIDE_HIGH(0xE0, read2(indexed()))
-  WIDE_HIGH(0xF0, read2(extended()))
-  STORES_LOW(0x90, direct())
-  STORES_LOW(0xA0, indexed())
-  STORES_LOW(0xB0, extended())
-  STORES_HIGH(0xD0, direct())
-  STORES_HIGH(0xE0, indexed())
-  STORES_HIGH(0xF0, extended())
-  case 0x8D: { int8_t offset = fetch(); jsr(m.pc + offset); break; }
+  DYADIC(0x80, m.a, immediate())
+  DYADIC(0x90, m.a, read(direct(), 3))
+  DYADIC(0xA0, m.a, read(indexed(), 4))
+  DYADIC(0xB0, m.a, read(extended(), 4))
+  DYADIC(0xC0, m.b, immediate())
+  DYADIC(0xD0, m.b, read(direct(), 3))
+  DYADIC(0xE0, m.b, read(indexed(), 4))
+  DYADIC(0xF0, m.b, read(extended(), 4))
+  WIDE_LOW(0x80, immediate2())
+  WIDE_LOW(0x90, read2(direct(), 3))
+  WIDE_LOW(0xA0, read2(indexed(), 4))
+  WIDE_LOW(0xB0, read2(extended(), 4))
+  WIDE_HIGH(0xC0, immediate2())
+  WIDE_HIGH(0xD0, read2(direct(), 3))
+  WIDE_HIGH(0xE0, read2(indexed(), 4))
+  WIDE_HIGH(0xF0, read2(extended(), 4))
+  STORES_LOW(0x90, direct(), 3)
+  STORES_LOW(0xA0, indexed(), 4)
+  STORES_LOW(0xB0, extended(), 4)
+  STORES_HIGH(0xD0, direct(), 3)
+  STORES_HIGH(0xE0, indexed(), 4)
+  STORES_HIGH(0xF0, extended(), 4)
+  case 0x8D: { int8_t offset = immediate(); jsr(m.pc + offset, 5); break; }
   }
 }
 
-/* ---- Reset, records, interrupts, cycles ---- */
+/* ---- Reset, records, interrupts, the run ---- */
 
 static void reset(void) {
   struct machine old = m;
@@ -407,7 +447,7 @@ static void reset(void) {
   m.cc = 0xD0;
   m.compare = 0xFFFF;
   m.trcs = TDRE;
-  m.pc = read2(VECTOR_RESET);
+  m.pc = read2(VECTOR_RESET, 1);
 }
 
 static void power_on(uint32_t read_only) {
@@ -464,26 +504,16 @@ static inline uint16_t cause(void) {
   return 0;
 }
 
+/* The vector is read in the last two of the twelve cycles, or of the four that end a wait. */
 static unsigned enter(uint16_t vector) {
   unsigned taken = m.waiting ? 4 : 12;
   if (vector == VECTOR_NMI) m.nmi = false;
   if (!m.waiting) stack_all();
   m.waiting = false;
   m.cc |= I;
-  m.pc = read2(vector);
+  m.pc = read2(vector, taken - 1);
   entries++;
   return taken;
-}
-
-static inline void pass(unsigned taken) {
-  if ((uint16_t)(m.compare - m.counter - 1) < taken) {
-    m.tcsr |= OCF;
-    m.level = m.tcsr & OLVL;
-  }
-  if ((uint16_t)(0xFFFF - m.counter - 1) < taken) m.tcsr |= TOF;
-  m.counter += taken;
-  m.busy = m.busy > taken ? m.busy - taken : 0;
-  cycles += taken;
 }
 
 /* Runs to the limit or a stop, and gives the reply. The session is good. */
@@ -504,17 +534,17 @@ static int run(uint32_t limit, const uint8_t *session, const uint8_t *end) {
     }
     uint16_t vector = cause();
     if (vector) {
-      pass(enter(vector));
+      finish(enter(vector));
     } else if (m.waiting) {
       pass(1);
     } else {
       uint8_t opcode = look(m.pc);
       unsigned taken = cycles_of[opcode];
       if (taken == 0) return 8;
-      fetch();
+      fetch(1);
       execute(opcode);
       instructions++;
-      pass(taken);
+      finish(taken);
     }
   }
 }

@@ -1,11 +1,11 @@
 #!/bin/bash
 # Compares the bench program with the plain C emulator (emulator.c): x86-64 instructions executed, and user time.
-#   bash benchmarks/measure.sh [WORKLOAD ..]       all of straight, interrupts, waits unless named
+#   bash benchmarks/measure.sh [WORKLOAD ..]       all of straight, interrupts, waits, clock unless named
 # Each figure is the difference of two run lengths, so that start-up cancels. RUNS=5 is the number of timed runs.
 set -eu
 . "$(dirname "$0")/common.sh"
 build
-[ $# -gt 0 ] || set -- straight interrupts waits
+[ $# -gt 0 ] || set -- straight interrupts waits clock
 
 printf '%-12s %11s %11s | %12s %12s %7s | %12s %12s | %9s %9s %7s\n' workload cycles instr 'C /instr' 'ours /instr' ratio 'C /cycle' \
   'ours /cycle' 'C s' 'ours s' ratio

@@ -4,19 +4,35 @@
     python3 tools/corners.py        writes crates/corners/stdin and crates/corners/stdout
 
 The single rows of the page's tables are taken as they stand. Those of $00 to $1F are worked out here from 01's words on each
-register, which the page's first table repeats. A row is its name (24 columns), R, the number of instructions, and the code.
+register, which the page's table of the registers repeats, and from the cycle of each access in 004's table 12. A row is its
+name (24 columns), R, the number of instructions, and the code.
 """
 BEFORE = {
     "pc": 0x1000, "a": 0xB6, "b": 0x5D, "cc": 0xD0, "direction1": 0x0F, "latch1": 0x3C, "direction2": 0x13, "latch2": 0x11,
-    "tcsr": 0xEA, "tof-armed": 0, "ocf-armed": 0, "icf-armed": 0, "counter": 0x1234, "compare": 0x5678,
+    "tcsr": 0xEA, "tof-armed": 0, "ocf-armed": 0, "icf-armed": 0, "counter": 0x1234, "compare": 0x5678, "level": 1,
     "trcs": 0xF5, "tdre-armed": 0, "orfe-armed": 0, "rdrf-armed": 0, "rate": 9, "transmit": 0x2C, "rame": 1, "standby": 0,
 }
-DIGITS = {"pc": 4, "counter": 4, "compare": 4, "rame": 1, "standby": 1}
-READS = {0x02: 0xAC, 0x03: 0xBF, 0x08: 0xEA, 0x09: 0x12, 0x0A: 0x34, 0x0B: 0x56, 0x0C: 0x78, 0x0D: 0x9A, 0x0E: 0xBC,
-         0x11: 0xF5, 0x12: 0x6B, 0x14: 0x40}
+DIGITS = {"pc": 4, "counter": 4, "compare": 4, "level": 1, "rame": 1, "standby": 1}
+READS = {0x02: 0xAC, 0x0D: 0x9A, 0x0E: 0xBC, 0x12: 0x6B, 0x14: 0x40}
 MEMORY = {0x04, 0x05, 0x06, 0x07, 0x0F, 0x20}
 BIT = {"tof": ("tcsr", 0x20), "ocf": ("tcsr", 0x40), "icf": ("tcsr", 0x80),
        "tdre": ("trcs", 0x20), "orfe": ("trcs", 0x40), "rdrf": ("trcs", 0x80)}
+
+
+class Row(dict):
+    """All that an answer shows, as of now, and how many of the instruction's cycles have passed."""
+    gone = 0
+
+    def come_to(self, cycle):
+        """The state that an access in this cycle meets: the cycles before it have passed."""
+        while self.gone < cycle - 1:
+            self.gone += 1
+            self["counter"] = (self["counter"] + 1) % 65536
+            if self["counter"] == self["compare"]:
+                self["tcsr"] |= 0x40
+                self["level"] = self["tcsr"] % 2
+            if self["counter"] == 0xFFFF:
+                self["tcsr"] |= 0x20
 
 
 def arm(now, *flags):
@@ -34,7 +50,16 @@ def clear(now, *flags):
             now[flag + "-armed"] = 0
 
 
-def read(now, at):
+def held(now, at):
+    """What an address holds; those not named here read FF."""
+    moving = {0x03: 0xBD + 2 * now["level"], 0x08: now["tcsr"], 0x09: now["counter"] // 256, 0x0A: now["counter"] % 256,
+              0x0B: now["compare"] // 256, 0x0C: now["compare"] % 256, 0x11: now["trcs"]}
+    return at if at in MEMORY else moving.get(at, READS.get(at, 0xFF))
+
+
+def read(now, cycle, at):
+    now.come_to(cycle)
+    value = held(now, at)
     if at == 0x08:
         arm(now, "tof", "ocf", "icf")
     if at == 0x09:
@@ -45,10 +70,11 @@ def read(now, at):
         arm(now, "tdre", "orfe", "rdrf")
     if at == 0x12:
         clear(now, "rdrf", "orfe")
-    return at if at in MEMORY else READS.get(at, 0xFF)
+    return value
 
 
-def write(now, at, v):
+def write(now, cycle, at, v):
+    now.come_to(cycle)
     if at in MEMORY:
         now[f"[{at:04x}]"] = v
     whole = {0x00: "direction1", 0x02: "latch1", 0x13: "transmit"}
@@ -84,38 +110,38 @@ def codes(value, top):
 
 
 def ldaa(now, at):
-    now["a"] = read(now, at)
+    now["a"] = read(now, 3, at)
     now["cc"] = codes(now["a"], 0x80)
 
 
 def staa(now, at):
-    write(now, at, now["a"])
+    write(now, 3, at, now["a"])
     now["cc"] = codes(now["a"], 0x80)
 
 
 def inc(now, at):
-    v = (read(now, at) + 1) % 256
-    write(now, at, v)
+    v = (read(now, 4, at) + 1) % 256
+    write(now, 6, at, v)
     now["cc"] = codes(v, 0x80)
 
 
 def ldd(now, at):
-    now["a"] = read(now, at)
-    now["b"] = read(now, at + 1)
+    now["a"] = read(now, 3, at)
+    now["b"] = read(now, 4, at + 1)
     now["cc"] = codes(now["a"] * 256 + now["b"], 0x8000)
 
 
 def std(now, at):
-    write(now, at, now["a"])
-    write(now, at + 1, now["b"])
+    write(now, 3, at, now["a"])
+    write(now, 4, at + 1, now["b"])
     now["cc"] = codes(now["a"] * 256 + now["b"], 0x8000)
 
 
 def answer(work, at, length, cycles):
-    now = dict(BEFORE)
+    now = Row(BEFORE)
     work(now, at)
+    now.come_to(cycles + 1)
     now["pc"] += length
-    now["counter"] = (now["counter"] + cycles) % 65536
     changes = [f"{name} {v:0{DIGITS.get(name, 1 if 'armed' in name else 2)}x}" for name, v in now.items() if BEFORE.get(name) != v]
     return " ".join([f"cycles {cycles}"] + changes)
 

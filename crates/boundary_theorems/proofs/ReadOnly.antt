@@ -13,7 +13,7 @@ use Rattle.bus.specs.Registers.{registerAt, isMemory}
 use Rattle.bus.specs.Access.{Memories, takes}
 use Rattle.bus.specs.Units.{passed}
 use Rattle.bus.proofs.Stores.{Spared, spared-all, spared-then}
-use Rattle.chip.proofs.Trees.{run-r}
+use Rattle.chip.proofs.Trees.{timed-r}
 use Rattle.machine.specs.declared.Machine.{Machine}
 use Rattle.machine.specs.declared.Cause.{Cause}
 use Rattle.machine.specs.Events.{appliedOf}
@@ -38,12 +38,12 @@ applied-r Idle memory m = refl
 applied-r Reset memory m = reset-is memory m .bus .r
 
 entered-r : (cause : Cause) (memory : Memories) (m : Machine) → start (enteredOf cause memory m .machine) ≡ start m
-unfolding enteredOf passed
-entered-r cause memory m = run-r _ _ memory
+unfolding enteredOf
+entered-r cause memory m = timed-r _ _ _ _ memory
 
 step-r : (i : Instruction) (memory : Memories) (m : Machine) → start (stepOf i memory m .machine) ≡ start m
-unfolding stepOf passed
-step-r i memory m = run-r _ _ memory
+unfolding stepOf
+step-r i memory m = timed-r _ _ _ _ memory
 
 -- R is r, and of the memories what every write spares is as it was
 abbrev Same : ℕ → Memories → World → Type 0

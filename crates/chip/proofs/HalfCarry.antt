@@ -28,8 +28,8 @@ use Rattle.operations.specs.declared.Target.{Target}
 use Rattle.operations.specs.declared.Target.the-variants.{In, Memory}
 use Rattle.operations.specs.Shapes.{targetOf}
 use Rattle.operations.specs.Operations.{branch}
-use Rattle.bus.specs.declared.Bus.{Bus}
 use Rattle.bus.specs.Access.{Memories}
+use Rattle.moments.specs.Moment.{Moment}
 use Rattle.chip.specs.Act.{Act, Out, run, read, write, _>>=_}
 use Rattle.chip.specs.Instructions.{read2, write2, operand, dyadic, monadic, tst, sta, wide, wideStore, push, push2, pull, pull2, psh, pul, pshx, pulx}
 use Rattle.chip.specs.Instructions.{jsr, rts, stackAll, vectored, swi, wai, operate, execute}
@@ -47,9 +47,9 @@ changesHalf =
     ∷ operations.Rti
     ∷ []
 
--- H after a tree, on any bus and memories
+-- H after a tree, at any moment and on any memories
 abbrev KeepsHalf : Registers → Act Registers → Type 0
-KeepsHalf c t = (b : Bus) (m : Memories) → run t b m .value .codes .h ≡ c .codes .h
+KeepsHalf c t = (b : Moment) (m : Memories) → run t b m .value .codes .h ≡ c .codes .h
 
 not-add : (op : Dyadic) (acc : Accumulator) → (Among (operations.Dyadic op acc) changesHalf → ⊥) → op ≡ Add → ⊥
 not-add op A n e = n (inl (ap (λ (o : Dyadic). operations.Dyadic o A) e))
@@ -101,7 +101,7 @@ operation-half operations.Swi n place at c b m = refl
 operation-half operations.Wai n place at c b m = refl
 
 -- finding the operand changes no code
-operand-half : (place : Place) (c : Registers) (b : Bus) (m : Memories) → run (operand place c) b m .value .registers .codes .h ≡ c .codes .h
+operand-half : (place : Place) (c : Registers) (b : Moment) (m : Memories) → run (operand place c) b m .value .registers .codes .h ≡ c .codes .h
 unfolding operand run read read2 _>>=_
 operand-half Inherent c b m = refl
 operand-half AccumulatorA c b m = refl
@@ -117,7 +117,7 @@ pub instruction-half : (i : Instruction) → (Among (i .operation) changesHalf �
 unfolding execute
 instruction-half i n c b m =
     let q = run (read (c .pc)) b m in
-    let o = run (operand (i .place) (withPc c (up (c .pc) 1))) (q .bus) (q .memory) in
-    ap (λ (z : Out Registers). z .value .codes .h) (run-then _ _ b m ∙ run-then _ _ (q .bus) (q .memory))
-    ∙ operation-half (i .operation) n (i .place) (o .value .at) (o .value .registers) (o .bus) (o .memory)
-    ∙ operand-half (i .place) (withPc c (up (c .pc) 1)) (q .bus) (q .memory)
+    let o = run (operand (i .place) (withPc c (up (c .pc) 1))) (q .units) (q .memory) in
+    ap (λ (z : Out Registers). z .value .codes .h) (run-then _ _ b m ∙ run-then _ _ (q .units) (q .memory))
+    ∙ operation-half (i .operation) n (i .place) (o .value .at) (o .value .registers) (o .units) (o .memory)
+    ∙ operand-half (i .place) (withPc c (up (c .pc) 1)) (q .units) (q .memory)

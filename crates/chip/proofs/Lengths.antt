@@ -10,8 +10,8 @@ use Rattle.opcodes.specs.declared.Place.the-variants.{Inherent, AccumulatorA, A
 use Rattle.opcodes.specs.Opcodes.{decodeOf}
 use Rattle.opcodes.specs.Fits.{operandBytes}
 use Rattle.opcodes.proofs.Fits.{fits}
-use Rattle.bus.specs.declared.Bus.{Bus}
 use Rattle.bus.specs.Access.{Memories}
+use Rattle.moments.specs.Moment.{Moment}
 use Rattle.registers.specs.declared.Registers.{Registers}
 use Rattle.registers.specs.Registers.{withPc}
 use Rattle.chip.specs.Act.{run, read, _>>=_}
@@ -21,7 +21,7 @@ round : (w n : ℕ) → up (up w 1) n ≡ up w (1 + n)
 round w n = omega arith
 
 -- the registers with PC past the opcode, and then past the place's bytes
-pub past-operand : (place : Place) (c : Registers) (b : Bus) (m : Memories)
+pub past-operand : (place : Place) (c : Registers) (b : Moment) (m : Memories)
     → run (operand place (withPc c (up (c .pc) 1))) b m .value .registers ≡ withPc c (up (c .pc) (1 + operandBytes place))
 unfolding operand run read read2 _>>=_
 past-operand Inherent c b m = refl
@@ -35,6 +35,6 @@ past-operand Extended c b m = ap (withPc c) (round (c .pc) 2)
 past-operand Relative c b m = ap (withPc c) (round (c .pc) 1)
 
 -- .. which are as many as the table's length
-pub past-instruction : (opcode : ℕ) (i : Instruction) → decodeOf opcode ≡ Defined i → (c : Registers) (b : Bus) (m : Memories)
+pub past-instruction : (opcode : ℕ) (i : Instruction) → decodeOf opcode ≡ Defined i → (c : Registers) (b : Moment) (m : Memories)
     → run (operand (i .place) (withPc c (up (c .pc) 1))) b m .value .registers ≡ withPc c (up (c .pc) (i .length))
 past-instruction opcode i e c b m = past-operand (i .place) c b m ∙ ap (λ (n : ℕ). withPc c (up (c .pc) n)) (sym (fits opcode i e .0))

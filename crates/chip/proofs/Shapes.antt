@@ -12,8 +12,8 @@ use Rattle.operations.specs.declared.Shape.{Shape}
 use Rattle.operations.specs.Shapes.{targetOf, monadicShape, tstShape, shapeOf}
 use Rattle.operations.specs.Operations.{quietOf, loadAt, loadedOf, loadWordAt, loadedWordOf}
 use Rattle.operations.specs.Operations.{storeAt, storeByte, storedThen, storedWordThen, wordOf, pushedThen}
-use Rattle.bus.specs.declared.Bus.{Bus}
 use Rattle.bus.specs.Access.{Memories}
+use Rattle.moments.specs.Moment.{Moment}
 use Rattle.chip.specs.Act.{Act, read, write, _>>=_, Out, run}
 use Rattle.chip.specs.Instructions.{read2, dyadic, monadic, tst, sta, wide, wideStore, push, push2, pull, pull2, psh, pul, pshx, pulx}
 use Rattle.chip.specs.Instructions.{jsr, rts, operate}
@@ -53,6 +53,6 @@ operation-shaped operations.Swi place at c = refl
 operation-shaped operations.Wai place at c = refl
 
 -- what an operation comes to, by its shape
-pub operated : (op : Operation) (place : Place) (at : ℕ) (c : Registers) (b : Bus) (m : Memories) {shape : Shape} {z : Out Registers}
-    → shape ≡ shapeOf op place → run (shaped shape at c) b m ≡ z → run (operate op place at c) b m ≡ z
-operated op place at c b m e p = ap (λ (t : Act Registers). run t b m) (operation-shaped op place at c ∙ ap (λ (s : Shape). shaped s at c) (sym e)) ∙ p
+pub operated : (op : Operation) (place : Place) (at : ℕ) (c : Registers) (o : Moment) (m : Memories) {shape : Shape} {z : Out Registers}
+    → shape ≡ shapeOf op place → run (shaped shape at c) o m ≡ z → run (operate op place at c) o m ≡ z
+operated op place at c o m e p = ap (λ (t : Act Registers). run t o m) (operation-shaped op place at c ∙ ap (λ (s : Shape). shaped s at c) (sym e)) ∙ p

@@ -1,39 +1,58 @@
 -- What every tree of accesses keeps, and so every instruction and every entry: the bus's ranges, R, and of the memories
 -- what every write spares. Assumes nothing.
-use Prim.Native.Nat.{ℕ}
+use Prim.Native.Nat.{ℕ, _-_}
+use mathlib.Core.List.{List, [], _∷_}
 use mathlib.Core.Path.{_≡_, refl, subst, _∙_}
 use mathlib.Core.Bool.{true}
 use Rattle.bits.proofs.Flags.{Stays}
 use Rattle.bus.specs.declared.Bus.{Bus}
 use Rattle.bus.specs.Access.{Memories, readOf, writeOf, storeOf}
-use Rattle.bus.specs.Units.{busRanges}
-use Rattle.bus.proofs.Ranges.{read-ranges, write-ranges, read-r, write-r}
+use Rattle.bus.specs.Units.{passed, busRanges}
+use Rattle.bus.proofs.Ranges.{read-ranges, write-ranges, passed-ranges, read-r, write-r}
 use Rattle.bus.proofs.Stores.{Spared, spared-all, spared-then, store-spared}
-use Rattle.chip.specs.Act.{Act, Act.done, Act.reading, Act.writing, run}
+use Rattle.moments.specs.Moment.{Moment, begun, toNext, next, readAt, writeAt, storeAt, ended}
+use Rattle.chip.specs.Act.{Act, Act.done, Act.reading, Act.writing, run, timed}
 
--- what each read and each write keeps, a tree keeps
-pub run-keeps : {A : Type 0} (P : Bus → Memories → Type 0)
-    → ((at : ℕ) (b : Bus) (m : Memories) → P b m → P (readOf m at b .next) m)
-    → ((at v : ℕ) (b : Bus) (m : Memories) → P b m → P (writeOf at v b) (storeOf b at v m))
-    → (t : Act A) (b : Bus) (m : Memories) → P b m → P (run t b m .bus) (run t b m .memory)
-unfolding run
-run-keeps P p q (done a) b m h = h
-run-keeps P p q (reading at k) b m h = run-keeps P p q (k (readOf m at b .value)) (readOf m at b .next) m (p at b m h)
-run-keeps P p q (writing at v t) b m h = run-keeps P p q t (writeOf at v b) (storeOf b at v m) (q at v b m h)
+-- what each cycle, each read and each write keeps, a tree keeps
+module _ (P : Bus → Memories → Type 0)
+    (passes : (k : ℕ) (b : Bus) (m : Memories) → P b m → P (passed k b) m)
+    (reads : (at : ℕ) (b : Bus) (m : Memories) → P b m → P (readOf m at b .next) m)
+    (writes : (at v : ℕ) (b : Bus) (m : Memories) → P b m → P (writeOf at v b) (storeOf b at v m)) where
+  next-keeps : (b : Bus) (c : ℕ) (ks : List ℕ) (m : Memories) → P b m → P (toNext b c ks .bus) m
+  unfolding toNext
+  next-keeps b c [] m h = h
+  next-keeps b c (k ∷ ks) m h = passes (k - 1 - c) b m h
 
-pub run-ranges : {A : Type 0} (t : Act A) (b : Bus) (m : Memories) → Stays (busRanges b) (busRanges (run t b m .bus))
-run-ranges =
-    run-keeps (λ (b : Bus) (m : Memories). busRanges b ≡ true) (λ at b m. read-ranges m at b) (λ at v b m. write-ranges at v b)
+  run-keeps : {A : Type 0} (t : Act A) (o : Moment) (m : Memories) → P (o .bus) m → P (run t o m .units .bus) (run t o m .memory)
+  unfolding run readAt writeAt storeAt
+  run-keeps (done a) o m h = h
+  run-keeps (reading at k) o m h =
+      run-keeps (k (readAt m at o .value)) (readAt m at o .next) m (reads at (next o .bus) m (next-keeps (o .bus) (o .cycle) (o .ahead) m h))
+  run-keeps (writing at v t) o m h =
+      run-keeps t (writeAt at v o) (storeAt at v o m) (writes at v (next o .bus) m (next-keeps (o .bus) (o .cycle) (o .ahead) m h))
 
-pub run-r : {A : Type 0} (t : Act A) (b : Bus) (m : Memories) → run t b m .bus .r ≡ b .r
-run-r t b m =
-    run-keeps (λ (c : Bus) (n : Memories). c .r ≡ b .r) (λ at c n h. read-r n at c ∙ h) (λ at v c n h. write-r at v c ∙ h)
-    t b m refl
+  pub timed-keeps : {A : Type 0} (ks : List ℕ) (n : ℕ) (t : Act A) (b : Bus) (m : Memories) → P b m
+      → P (timed ks n t b m .bus) (timed ks n t b m .memory)
+  unfolding timed ended
+  timed-keeps ks n t b m h = passes (n - run t (begun ks b) m .units .cycle) _ _ (run-keeps t (begun ks b) m h)
 
-pub run-spared : {A : Type 0} (t : Act A) (b : Bus) (m : Memories) → Spared (b .r) m (run t b m .memory)
-run-spared t b m =
-    run-keeps (λ (c : Bus) (n : Memories). (c .r ≡ b .r) × Spared (b .r) m n)
-    (λ at c n k. (read-r n at c ∙ k .0, k .1))
-    (λ at v c n k. (write-r at v c ∙ k .0, spared-then (k .1) (subst (λ (r : ℕ). Spared r n (storeOf c at v n)) (k .0) (store-spared c at v n))))
-    t b m (refl, spared-all (b .r) m)
+pub timed-ranges : {A : Type 0} (ks : List ℕ) (n : ℕ) (t : Act A) (b : Bus) (m : Memories) → Stays (busRanges b) (busRanges (timed ks n t b m .bus))
+timed-ranges =
+    timed-keeps (λ (b : Bus) (m : Memories). busRanges b ≡ true)
+    (λ k b m. passed-ranges k b) (λ at b m. read-ranges m at b) (λ at v b m. write-ranges at v b)
+
+pub timed-r : {A : Type 0} (ks : List ℕ) (n : ℕ) (t : Act A) (b : Bus) (m : Memories) → timed ks n t b m .bus .r ≡ b .r
+unfolding passed
+timed-r ks n t b m =
+    timed-keeps (λ (c : Bus) (l : Memories). c .r ≡ b .r) (λ k c l h. h) (λ at c l h. read-r l at c ∙ h) (λ at v c l h. write-r at v c ∙ h)
+    ks n t b m refl
+
+pub timed-spared : {A : Type 0} (ks : List ℕ) (n : ℕ) (t : Act A) (b : Bus) (m : Memories) → Spared (b .r) m (timed ks n t b m .memory)
+unfolding passed
+timed-spared ks n t b m =
+    timed-keeps (λ (c : Bus) (l : Memories). (c .r ≡ b .r) × Spared (b .r) m l)
+    (λ k c l h. h)
+    (λ at c l h. (read-r l at c ∙ h .0, h .1))
+    (λ at v c l h. (write-r at v c ∙ h .0, spared-then (h .1) (subst (λ (r : ℕ). Spared r l (storeOf c at v l)) (h .0) (store-spared c at v l))))
+    ks n t b m (refl, spared-all (b .r) m)
     .1

@@ -2,6 +2,7 @@
 use bits::minus;
 use bits::plus;
 use bus::Bus;
+use moments::Clocked;
 use opcodes::Instruction;
 use opcodes::Monadic;
 use opcodes::Operation;
@@ -16,15 +17,19 @@ use operations::Storing;
 use registers::Registers;
 use tables::Vector;
 ghost use mathlib.Core.Path.{_≡_};
-ghost use mathlib.Core.List.{List};
+ghost use mathlib.Core.List.{List, []};
 ghost use Prim.Native.Nat.{ℕ};
 ghost use Rattle.tables.specs.Tables.{vectorOf};
-ghost use Rattle.bus.specs.Access.{memories, readOf};
-ghost use Rattle.chip.specs.Act.{run, out};
+ghost use Rattle.bus.specs.Access.{memories};
+ghost use Rattle.timing.specs.Table.{accessCycles, entryAccesses};
+ghost use Rattle.moments.specs.Moment.{begun, readAt, ended};
+ghost use Rattle.timing.specs.Digits.{listed};
+ghost use Rattle.moments.specs.Clocked.{momentOf};
+ghost use Rattle.chip.specs.Act.{run, out, end, timed};
 ghost use Rattle.chip.specs.Instructions.{read2, write2, operand, push, push2, pull, pull2, stackAll, rti, vectored, swi, wai, enter};
 ghost use Rattle.chip.specs.Instructions.{operate, execute};
 ghost use Rattle.chip.specs.Shapes.{loads, loadsWord, stores, storesWord, modifies, pushesWord};
-ghost use Rattle.chip.specs.Chip.{runOn, ran, located, popped, poppedWord, withRegisters, chipOf};
+ghost use Rattle.chip.specs.Chip.{runOn, ran, located, popped, poppedWord, withRegisters, coreOf, timedOn, left};
 ghost use Rattle.bits.specs.Words.{up};
 ghost use Rattle.operations.specs.Operations.{quietOf};
 ghost use Rattle.registers.specs.Registers.{withPc};
@@ -34,30 +39,41 @@ pub struct Chip {
     pub bus: Bus,
 }
 
+// The same in the middle of an instruction.
+pub struct Core {
+    pub registers: Registers,
+    pub bus: Clocked,
+}
+
 pub struct WordRead {
+    pub value: u16,
+    pub next: Clocked,
+}
+
+pub struct WordFetched {
     pub value: u16,
     pub next: Bus,
 }
 
 pub struct Located {
     pub at: u16,
-    pub chip: Chip,
+    pub core: Core,
 }
 
 pub struct Popped {
     pub value: u8,
-    pub chip: Chip,
+    pub core: Core,
 }
 
 pub struct PoppedWord {
     pub value: u16,
-    pub chip: Chip,
+    pub core: Core,
 }
 
 // Two bytes, the high one first.
-pub fn read_word(b: Bus, image: &[u8], area: &[u8], at: u16) -> WordRead
-    ensures { λ r. ⌜ run (read2 at) b (memories (now (image .entry)) (now (area .entry)))
-        ≡ out (r .value) (r .next) (memories (now (image .entry)) (now (area .entry))) ⌝ }
+fn read_word(b: Clocked, image: &[u8], area: &[u8], at: u16) -> WordRead
+    ensures { λ r. ⌜ run (read2 at) (momentOf b) (memories (now (image .entry)) (now (area .entry)))
+        ≡ out (r .value) (momentOf (r .next)) (memories (now (image .entry)) (now (area .entry))) ⌝ }
 {
     let h = b.read(image, area, at);
     let l = h.next.read(image, area, plus(at, 1));
@@ -68,26 +84,27 @@ pub fn read_word(b: Bus, image: &[u8], area: &[u8], at: u16) -> WordRead
     }
 }
 
-fn write_word(b: Bus, image: &mut [u8], area: &mut [u8], at: u16, w: u16) -> Bus
-    ensures { λ r. ⌜ run (write2 at w) b (memories (now (image .entry)) (now (area .entry))) ≡ out tt r (memories (now (image .exit)) (now (area .exit))) ⌝ }
+fn write_word(b: Clocked, image: &mut [u8], area: &mut [u8], at: u16, w: u16) -> Clocked
+    ensures { λ r. ⌜ run (write2 at w) (momentOf b) (memories (now (image .entry)) (now (area .entry)))
+        ≡ out tt (momentOf r) (memories (now (image .exit)) (now (area .exit))) ⌝ }
 {
     let c = b.write(image, area, at, bits::upper(w));
     c.write(image, area, plus(at, 1), bits::lower(w))
 }
 
 // An operand's address, with PC moved past n bytes of the instruction.
-fn spot_at(at: u16, c: Registers, b: Bus, n: u16) -> Located
-    ensures { λ r. ⌜ r ≡ record { at = at; chip = chipOf (withPc c (up (c .pc) n)) b } ⌝ }
+fn spot_at(at: u16, c: Registers, b: Clocked, n: u16) -> Located
+    ensures { λ r. ⌜ r ≡ record { at = at; core = coreOf (withPc c (up (c .pc) n)) b } ⌝ }
 {
     let registers = c.with_pc(plus(c.pc, n));
-    let chip = Chip {
+    let core = Core {
         registers: registers,
         bus: b,
     };
-    Located { at: at, chip: chip }
+    Located { at: at, core: core }
 }
 
-impl Chip {
+impl Core {
     // Where the operand is.
     fn locate(self, place: Place, image: &[u8], area: &[u8]) -> Located
         ensures { λ r. ⌜ runOn (operand place) self (memories (now (image .entry)) (now (area .entry)))
@@ -96,9 +113,9 @@ impl Chip {
         let c = self.registers;
         let b = self.bus;
         match place {
-            Place::Inherent => Located { at: 0, chip: self },
-            Place::AccumulatorA => Located { at: 0, chip: self },
-            Place::AccumulatorB => Located { at: 0, chip: self },
+            Place::Inherent => Located { at: 0, core: self },
+            Place::AccumulatorA => Located { at: 0, core: self },
+            Place::AccumulatorB => Located { at: 0, core: self },
             Place::ImmediateByte => spot_at(c.pc, c, b, 1),
             Place::ImmediateWord => spot_at(c.pc, c, b, 2),
             Place::Direct => {
@@ -123,20 +140,20 @@ impl Chip {
 }
 
 // The stack.
-impl Chip {
-    fn push(self, v: u8, image: &mut [u8], area: &mut [u8]) -> Chip
+impl Core {
+    fn push(self, v: u8, image: &mut [u8], area: &mut [u8]) -> Core
         ensures { λ r. ⌜ runOn (push v) self (memories (now (image .entry)) (now (area .entry))) ≡ ran r (memories (now (image .exit)) (now (area .exit))) ⌝ }
     {
         let c = self.registers;
         let bus = self.bus.write(image, area, c.sp, v);
         let registers = c.with_sp(minus(c.sp, 1));
-        Chip {
+        Core {
             registers: registers,
             bus: bus,
         }
     }
 
-    fn push_word(self, w: u16, image: &mut [u8], area: &mut [u8]) -> Chip
+    fn push_word(self, w: u16, image: &mut [u8], area: &mut [u8]) -> Core
         ensures { λ r. ⌜ runOn (push2 w) self (memories (now (image .entry)) (now (area .entry)))
             ≡ ran r (memories (now (image .exit)) (now (area .exit))) ⌝ }
     {
@@ -153,13 +170,13 @@ impl Chip {
         let f = self.bus.read(image, area, sp);
         let bus = f.next;
         let registers = c.with_sp(sp);
-        let chip = Chip {
+        let core = Core {
             registers: registers,
             bus: bus,
         };
         Popped {
             value: f.value,
-            chip: chip,
+            core: core,
         }
     }
 
@@ -168,16 +185,16 @@ impl Chip {
             ≡ poppedWord r (memories (now (image .entry)) (now (area .entry))) ⌝ }
     {
         let h = self.pull(image, area);
-        let l = h.chip.pull(image, area);
-        let chip = l.chip;
+        let l = h.core.pull(image, area);
+        let core = l.core;
         PoppedWord {
             value: bits::pair(h.value, l.value),
-            chip: chip,
+            core: core,
         }
     }
 
     // All registers, PC first.
-    fn stack_all(self, image: &mut [u8], area: &mut [u8]) -> Chip
+    fn stack_all(self, image: &mut [u8], area: &mut [u8]) -> Core
         ensures { λ r. ⌜ runOn stackAll self (memories (now (image .entry)) (now (area .entry))) ≡ ran r (memories (now (image .exit)) (now (area .exit))) ⌝ }
     {
         let c = self.registers;
@@ -189,33 +206,33 @@ impl Chip {
             .push(c.codes.to_byte(), image, area)
     }
 
-    fn rti(self, image: &[u8], area: &[u8]) -> Chip
+    fn rti(self, image: &[u8], area: &[u8]) -> Core
         ensures { λ r. ⌜ runOn rti self (memories (now (image .entry)) (now (area .entry))) ≡ ran r (memories (now (image .entry)) (now (area .entry))) ⌝ }
     {
         let k = self.pull(image, area);
-        let b = k.chip.pull(image, area);
-        let a = b.chip.pull(image, area);
-        let x = a.chip.pull_word(image, area);
-        let pc = x.chip.pull_word(image, area);
-        let chip = pc.chip;
-        let bus = chip.bus;
+        let b = k.core.pull(image, area);
+        let a = b.core.pull(image, area);
+        let x = a.core.pull_word(image, area);
+        let pc = x.core.pull_word(image, area);
+        let core = pc.core;
+        let bus = core.bus;
         let registers = Registers {
             a: a.value,
             b: b.value,
             x: x.value,
-            sp: chip.registers.sp,
+            sp: core.registers.sp,
             pc: pc.value,
             codes: arithmetic::Codes::from_byte(k.value),
             waiting: self.registers.waiting,
         };
-        Chip {
+        Core {
             registers: registers,
             bus: bus,
         }
     }
 
     // I set, PC from a vector, no wait.
-    fn vectored(self, vector: u16, image: &[u8], area: &[u8]) -> Chip
+    fn vectored(self, vector: u16, image: &[u8], area: &[u8]) -> Core
         ensures { λ r. ⌜ runOn (vectored vector) self (memories (now (image .entry)) (now (area .entry)))
             ≡ ran r (memories (now (image .entry)) (now (area .entry))) ⌝ }
     {
@@ -225,33 +242,33 @@ impl Chip {
         let registers = c.with_pc(w.value)
             .with_codes(registers::with_i(c.codes, true))
             .with_waiting(false);
-        Chip {
+        Core {
             registers: registers,
             bus: bus,
         }
     }
 
-    fn swi(self, image: &mut [u8], area: &mut [u8]) -> Chip
+    fn swi(self, image: &mut [u8], area: &mut [u8]) -> Core
         ensures { λ r. ⌜ runOn swi self (memories (now (image .entry)) (now (area .entry))) ≡ ran r (memories (now (image .exit)) (now (area .exit))) ⌝ }
     {
         let p = self.stack_all(image, area);
         p.vectored(tables::address_of(Vector::Swi), image, area)
     }
 
-    fn wai(self, image: &mut [u8], area: &mut [u8]) -> Chip
+    fn wai(self, image: &mut [u8], area: &mut [u8]) -> Core
         ensures { λ r. ⌜ runOn wai self (memories (now (image .entry)) (now (area .entry))) ≡ ran r (memories (now (image .exit)) (now (area .exit))) ⌝ }
     {
         let p = self.stack_all(image, area);
         let bus = p.bus;
         let registers = p.registers.with_waiting(true);
-        Chip {
+        Core {
             registers: registers,
             bus: bus,
         }
     }
 
     // Interrupt entry.
-    pub fn enter(self, vector: u16, image: &mut [u8], area: &mut [u8]) -> Chip
+    fn enter(self, vector: u16, image: &mut [u8], area: &mut [u8]) -> Core
         ensures { λ r. ⌜ runOn (enter vector) self (memories (now (image .entry)) (now (area .entry)))
             ≡ ran r (memories (now (image .exit)) (now (area .exit))) ⌝ }
     {
@@ -264,19 +281,19 @@ impl Chip {
 }
 
 // The shapes of access.
-impl Chip {
-    fn quiet(self, op: Quiet, at: u16) -> Chip
+impl Core {
+    fn quiet(self, op: Quiet, at: u16) -> Core
         ensures { λ r. ⌜ r ≡ withRegisters self (quietOf op at (self .registers)) ⌝ }
     {
         let bus = self.bus;
         let registers = op.done(at, self.registers);
-        Chip {
+        Core {
             registers: registers,
             bus: bus,
         }
     }
 
-    fn load(self, op: Loading, at: u16, image: &[u8], area: &[u8]) -> Chip
+    fn load(self, op: Loading, at: u16, image: &[u8], area: &[u8]) -> Core
         ensures { λ r. ⌜ runOn (loads op at) self (memories (now (image .entry)) (now (area .entry)))
             ≡ ran r (memories (now (image .entry)) (now (area .entry))) ⌝ }
     {
@@ -284,13 +301,13 @@ impl Chip {
         let f = self.bus.read(image, area, op.address(at, c));
         let bus = f.next;
         let registers = op.loaded(f.value, c);
-        Chip {
+        Core {
             registers: registers,
             bus: bus,
         }
     }
 
-    fn load_word(self, op: LoadingWord, at: u16, image: &[u8], area: &[u8]) -> Chip
+    fn load_word(self, op: LoadingWord, at: u16, image: &[u8], area: &[u8]) -> Core
         ensures { λ r. ⌜ runOn (loadsWord op at) self (memories (now (image .entry)) (now (area .entry)))
             ≡ ran r (memories (now (image .entry)) (now (area .entry))) ⌝ }
     {
@@ -298,40 +315,40 @@ impl Chip {
         let w = read_word(self.bus, image, area, op.address(at, c));
         let bus = w.next;
         let registers = op.loaded(w.value, c);
-        Chip {
+        Core {
             registers: registers,
             bus: bus,
         }
     }
 
-    fn store(self, op: Storing, at: u16, image: &mut [u8], area: &mut [u8]) -> Chip
+    fn store(self, op: Storing, at: u16, image: &mut [u8], area: &mut [u8]) -> Core
         ensures { λ r. ⌜ runOn (stores op at) self (memories (now (image .entry)) (now (area .entry)))
             ≡ ran r (memories (now (image .exit)) (now (area .exit))) ⌝ }
     {
         let c = self.registers;
         let bus = self.bus.write(image, area, op.address(at, c), op.byte(c));
         let registers = op.stored(c);
-        Chip {
+        Core {
             registers: registers,
             bus: bus,
         }
     }
 
-    fn store_word(self, op: WideStore, at: u16, image: &mut [u8], area: &mut [u8]) -> Chip
+    fn store_word(self, op: WideStore, at: u16, image: &mut [u8], area: &mut [u8]) -> Core
         ensures { λ r. ⌜ runOn (storesWord op at) self (memories (now (image .entry)) (now (area .entry)))
             ≡ ran r (memories (now (image .exit)) (now (area .exit))) ⌝ }
     {
         let c = self.registers;
         let bus = write_word(self.bus, image, area, at, c.stored(op));
         let registers = operations::stored_word(op, c);
-        Chip {
+        Core {
             registers: registers,
             bus: bus,
         }
     }
 
     // Read, modify, write.
-    fn modify(self, op: Monadic, at: u16, image: &mut [u8], area: &mut [u8]) -> Chip
+    fn modify(self, op: Monadic, at: u16, image: &mut [u8], area: &mut [u8]) -> Core
         ensures { λ r. ⌜ runOn (modifies op at) self (memories (now (image .entry)) (now (area .entry)))
             ≡ ran r (memories (now (image .exit)) (now (area .exit))) ⌝ }
     {
@@ -340,20 +357,20 @@ impl Chip {
         let r = arithmetic::monadic(op, f.value, c.codes);
         let bus = f.next.write(image, area, at, r.value);
         let registers = c.with_codes(r.codes);
-        Chip {
+        Core {
             registers: registers,
             bus: bus,
         }
     }
 
-    fn push_of(self, op: Pushing, at: u16, image: &mut [u8], area: &mut [u8]) -> Chip
+    fn push_of(self, op: Pushing, at: u16, image: &mut [u8], area: &mut [u8]) -> Core
         ensures { λ r. ⌜ runOn (pushesWord op at) self (memories (now (image .entry)) (now (area .entry)))
             ≡ ran r (memories (now (image .exit)) (now (area .exit))) ⌝ }
     {
         let p = self.push_word(op.word(self.registers), image, area);
         let bus = p.bus;
         let registers = op.pushed(at, p.registers);
-        Chip {
+        Core {
             registers: registers,
             bus: bus,
         }
@@ -361,7 +378,7 @@ impl Chip {
 }
 
 // The instruction.
-impl Chip {
+impl Core {
     fn operate(
         self,
         operation: Operation,
@@ -369,7 +386,7 @@ impl Chip {
         at: u16,
         image: &mut [u8],
         area: &mut [u8],
-    ) -> Chip
+    ) -> Core
         ensures { λ r. ⌜ runOn (operate operation place at) self (memories (now (image .entry)) (now (area .entry)))
             ≡ ran r (memories (now (image .exit)) (now (area .exit))) ⌝ }
     {
@@ -388,24 +405,21 @@ impl Chip {
         }
     }
 
-    // The opcode's fetch: below $20 its read may have an effect, above none.
-    fn fetched(mut self, image: &[u8]) -> Chip
-        ensures { λ r. ⌜ ((area : List ℕ) → r ≡ chipOf (withPc (self .registers) (up (self .registers .pc) 1))
-            (readOf (memories (now (image .entry)) area) (self .registers .pc) (self .bus) .next)) ⌝ }
+    // The opcode's fetch.
+    fn fetched(self, image: &[u8]) -> Core
+        ensures { λ r. ⌜ r .registers ≡ withPc (self .registers) (up (self .registers .pc) 1) ⌝
+            ∗ ⌜ ((area : List ℕ) → momentOf (r .bus) ≡ readAt (memories (now (image .entry)) area) (self .registers .pc) (momentOf (self .bus)) .next) ⌝ }
     {
-        let pc = self.registers.pc;
-        let registers = self.registers.with_pc(plus(pc, 1));
-        self.registers = registers;
-        if pc < 32 {
-            let f = self.bus.read_low(image, pc);
-            let bus = f.next;
-            self.bus = bus;
-            return self;
+        let c = self.registers;
+        let bus = self.bus.fetch(image, c.pc);
+        let registers = c.with_pc(plus(c.pc, 1));
+        Core {
+            registers: registers,
+            bus: bus,
         }
-        self
     }
 
-    pub fn execute(self, i: Instruction, image: &mut [u8], area: &mut [u8]) -> Chip
+    fn execute(self, i: Instruction, image: &mut [u8], area: &mut [u8]) -> Core
         ensures { λ r. ⌜ runOn (execute i) self (memories (now (image .entry)) (now (area .entry)))
             ≡ ran r (memories (now (image .exit)) (now (area .exit))) ⌝ }
     {
@@ -413,6 +427,68 @@ impl Chip {
         let place = i.place;
         let o = f.locate(place, image, area);
         let operation = i.operation;
-        o.chip.operate(operation, place, o.at, image, area)
+        o.core.operate(operation, place, o.at, image, area)
+    }
+}
+
+// Whole instructions and entries, with their cycles.
+impl Core {
+    // The rest of n cycles passes.
+    fn end(self, n: u8) -> Chip
+        ensures { λ r. ⌜ r .registers ≡ self .registers ⌝ ∗ ⌜ r .bus ≡ ended n (momentOf (self .bus)) ⌝ }
+    {
+        let registers = self.registers;
+        let bus = self.bus.finish(n);
+        Chip {
+            registers: registers,
+            bus: bus,
+        }
+    }
+}
+
+impl Chip {
+    // The accesses are to stand in the cycles `ahead`.
+    fn begin(self, ahead: u64) -> Core
+        ensures { λ r. ⌜ r .registers ≡ self .registers ⌝ ∗ ⌜ momentOf (r .bus) ≡ begun (listed ahead) (self .bus) ⌝ }
+    {
+        let registers = self.registers;
+        let bus = moments::begin(self.bus, ahead);
+        Core {
+            registers: registers,
+            bus: bus,
+        }
+    }
+
+    pub fn execute(self, i: Instruction, image: &mut [u8], area: &mut [u8]) -> Chip
+        ensures { λ r. ⌜ timedOn (accessCycles (i .operation) (i .place)) (i .cycles) (execute i) self (memories (now (image .entry)) (now (area .entry)))
+            ≡ left r (memories (now (image .exit)) (now (area .exit))) ⌝ }
+    {
+        let operation = i.operation;
+        let place = i.place;
+        let p = self.begin(timing::accesses(operation, place))
+            .execute(i, image, area);
+        p.end(i.cycles)
+    }
+
+    // Interrupt entry, in so many cycles.
+    pub fn enter(self, vector: u16, cycles: u8, image: &mut [u8], area: &mut [u8]) -> Chip
+        ensures { λ r. ⌜ timedOn (entryAccesses (self .registers .waiting)) cycles (enter vector) self (memories (now (image .entry)) (now (area .entry)))
+            ≡ left r (memories (now (image .exit)) (now (area .exit))) ⌝ }
+    {
+        let p = self.begin(timing::entry_accesses(self.registers.waiting))
+            .enter(vector, image, area);
+        p.end(cycles)
+    }
+}
+
+// Two bytes, the high one first, while no cycle passes.
+pub fn fetch_word(b: Bus, image: &[u8], area: &[u8], at: u16) -> WordFetched
+    ensures { λ r. ⌜ timed [] 0 (read2 at) b (memories (now (image .entry)) (now (area .entry)))
+        ≡ end (r .value) (r .next) (memories (now (image .entry)) (now (area .entry))) ⌝ }
+{
+    let w = read_word(moments::begin(b, 0), image, area, at);
+    WordFetched {
+        value: w.value,
+        next: w.next.finish(0),
     }
 }

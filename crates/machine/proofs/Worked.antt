@@ -18,7 +18,9 @@ use Rattle.serial.specs.Serial.{trcsOf, writeSerial, receivedByte, ticksSerial,
 use Rattle.bus.specs.declared.Bus.{Bus}
 use Rattle.bus.specs.Access.{Memories, memories, withTimer, readOf, writeOf, storeOf}
 use Rattle.bus.specs.Units.{passed, resetBus}
-use Rattle.chip.specs.Act.{run, read, write, _>>=_}
+use Rattle.timing.specs.Table.{accessCycles}
+use Rattle.moments.specs.Moment.{toNext, readAt, writeAt, storeAt, ended}
+use Rattle.chip.specs.Act.{timed, run, read, write, _>>=_}
 use Rattle.chip.specs.Instructions.{read2, operand, monadic, sta, wide, push, push2, stackAll, vectored, enter, operate, execute}
 use Rattle.session.specs.declared.Event.the-variants.{Received}
 use Rattle.machine.specs.declared.Machine.{Machine}
@@ -31,11 +33,11 @@ use Rattle.machine.specs.Steps.{Stepped, enteredOf, lookOf, stepOf}
 use Rattle.machine.proofs.Reset.{vector-read}
 
 -- a machine after reset, all memory writable; the image's bytes past its end are 0
-abbrev start : Machine
+abbrev pub start : Machine
 start = resetOf (memories [] []) (cold 65536)
 
 -- what is told of the step that a look says; nothing where it says that there is none
-abbrev told : (Stepped → List ℕ) → Look → Memories → Machine → List ℕ
+abbrev pub told : (Stepped → List ℕ) → Look → Memories → Machine → List ℕ
 told f (Runs i) memory m = f (stepOf i memory m)
 told f Undefined memory m = []
 
@@ -54,16 +56,16 @@ abbrev set : ℕ
 set = 0xFF
 
 -- what a step leaves
-abbrev registers : Stepped → Registers
+abbrev pub registers : Stepped → Registers
 registers s = s .machine .chip .registers
 
 abbrev codes : Stepped → ℕ
 codes s = codesByte (registers s .codes)
 
-abbrev accumulatorA : Stepped → ℕ
+abbrev pub accumulatorA : Stepped → ℕ
 accumulatorA s = registers s .a
 
-abbrev double : Stepped → ℕ
+abbrev pub double : Stepped → ℕ
 double s = paired (registers s .a) (registers s .b)
 
 -- counter and TCSR after k cycles of a counter and a compare register
@@ -119,7 +121,7 @@ table =
     ∷ (counted 0xFFFC 0 3 is 0xFFFF ∷ 0x20 ∷ [])  -- Counter FFFC after 3 cycles sets TOF
     ∷ (counted 0xFFFF 0x0100 3 is 0x0002 ∷ 0x00 ∷ [])  -- FFFF after 3 cycles is 0002, TOF not set
     ∷ (counted 0x0010 0x0010 2 is 0x0012 ∷ 0x00 ∷ [])  -- Counter and compare both 0010, 2 cycles: no OCF
-    ∷ (stepped (one (λ s. s .machine .chip .bus .timer .counter)) clear 0 0 0 (0x97 ∷ 0x09 ∷ []) is 0xFFFB ∷ [])  -- STAA $09: counter FFFB afterwards
+    ∷ (stepped (one (λ s. s .machine .chip .bus .timer .counter)) clear 0 0 0 (0x97 ∷ 0x09 ∷ []) is 0xFFF9 ∷ [])  -- STAA $09: counter FFF9 afterwards: written in cycle 3 of 3 (02, request 5)
     ∷ (stored (appliedOf (Received 0x42 true) (memories [] []) (appliedOf (Received 0x41 true) (memories [] []) receiving)) is 0x41 ∷ 0xE8 ∷ [])  -- bytes 41, 42: stored 41, TRCS E8
     ∷ (stored (appliedOf (Received 0x41 false) (memories [] []) receiving) is 0x00 ∷ 0x68 ∷ [])  -- a bad stop alone: 68
     ∷ (readOf (memories [] []) 0x03 (start .chip .bus) .value ∷ [] is 0x5A ∷ [])  -- Power-on read of $03: 5A
@@ -130,7 +132,7 @@ table =
 pub worked : map found table ≡ map meant table
 unfolding resetOf resetAct lookOf stepOf enteredOf appliedOf decodeOf codesByte codesOf movedOf sub16Of monadicOf daaOf mulOf xor
     readPort readPorts resetPorts readTimer writeTimer ticks resetTimer trcsOf writeSerial receivedByte ticksSerial resetSerial readOf writeOf storeOf passed resetBus
-    run read write _>>=_ read2 operand monadic sta wide push push2 stackAll vectored enter operate execute
+    accessCycles timed toNext readAt writeAt storeAt ended run read write _>>=_ read2 operand monadic sta wide push push2 stackAll vectored enter operate execute
 worked = refl
 
 -- "Power-on read of $03: 5A", whatever the image and R

@@ -15,7 +15,7 @@ use Rattle.bus.specs.declared.Bus.{Bus}
 use Rattle.bus.specs.Access.{Memories, memories}
 use Rattle.bus.specs.Units.{passed, resetBus, busRanges}
 use Rattle.registers.specs.declared.Registers.{Registers}
-use Rattle.chip.specs.Act.{Act, Act.done, Out, run, _>>=_}
+use Rattle.chip.specs.Act.{Act, Act.done, End, timed, _>>=_}
 use Rattle.chip.specs.Instructions.{read2}
 use Rattle.machine.specs.declared.Machine.{Machine}
 use Rattle.machine.specs.declared.Power.{Power}
@@ -70,12 +70,12 @@ resetAct = do
   w ← read2 (vectorOf Reset)
   done (resetRegisters w)
 
-abbrev pub resetTo : Machine → Out Registers → Machine
+abbrev pub resetTo : Machine → End Registers → Machine
 resetTo m o = record { chip = record { registers = o .value; bus = o .bus }; irq1 = m .irq1; nmi = false }
 
 -- reset: "pending NMI .. 0"; pins, IRQ1's level, R and memory are kept, and no cycles pass
 unfoldable pub resetOf : Memories → Machine → Machine
-resetOf memory m = resetTo m (run resetAct (resetBus (m .chip .bus)) memory)
+resetOf memory m = resetTo m (timed [] 0 resetAct (resetBus (m .chip .bus)) memory)
 
 -- what power-on resets: "port 1 pins $FF, port 2 pins $1A, IRQ1 high, bit 7 of $14 zero, and the R given"
 abbrev pub coldPorts : Ports

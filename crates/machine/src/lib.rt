@@ -206,7 +206,7 @@ impl Machine {
     pub fn reset(self, image: &[u8], area: &[u8]) -> Machine
         ensures { λ r. ⌜ r ≡ resetOf (memories (now (image .entry)) (now (area .entry))) self ⌝ }
     {
-        let w = chip::read_word(
+        let w = chip::fetch_word(
             self.chip.bus.reset(),
             image,
             area,
@@ -294,14 +294,10 @@ impl Machine {
         }
     }
 
-    fn entry_cycles(self) -> Cycles
-        ensures { λ r. ⌜ r .0 ≡ entryCycles self ⌝ }
+    fn entry_cycles(self) -> u8
+        ensures { λ r. ⌜ r ≡ entryCycles self ⌝ }
     {
-        if self.chip.registers.waiting {
-            Cycles(4)
-        } else {
-            Cycles(12)
-        }
+        if self.chip.registers.waiting { 4 } else { 12 }
     }
 
     // An interrupt is entered, and its cycles pass.
@@ -311,13 +307,16 @@ impl Machine {
     {
         let k = self.entry_cycles();
         let chip = self.chip
-            .enter(tables::address_of(vector_for(cause)), image, area);
-        let m = Machine {
+            .enter(tables::address_of(vector_for(cause)), k, image, area);
+        let machine = Machine {
             chip: chip,
             irq1: self.irq1,
             nmi: nmi_after(cause, self.nmi),
         };
-        m.after(k)
+        Moved {
+            machine: machine,
+            cycles: Cycles(k as u32),
+        }
     }
 
     // The byte that the opcode's fetch is to read.
@@ -348,21 +347,14 @@ impl Machine {
         ensures { λ r. ⌜ moved r (memories (now (image .exit)) (now (area .exit))) ≡ stepOf i (memories (now (image .entry)) (now (area .entry))) self ⌝ }
     {
         let chip = self.chip.execute(i, image, area);
-        let m = Machine {
+        let machine = Machine {
             chip: chip,
             irq1: self.irq1,
             nmi: self.nmi,
         };
-        m.after(Cycles(i.cycles as u32))
-    }
-
-    // The cycles of a step pass.
-    fn after(self, k: Cycles) -> Moved
-        ensures { λ r. ⌜ r ≡ record { machine = passedOf (k .0) self; cycles = k } ⌝ }
-    {
         Moved {
-            machine: self.pass(k),
-            cycles: k,
+            machine: machine,
+            cycles: Cycles(i.cycles as u32),
         }
     }
 }

@@ -16,7 +16,7 @@ use Rattle.bus.specs.declared.Bus.{Bus}
 use Rattle.bus.specs.Access.{Memories, memories}
 use Rattle.bus.specs.Units.{passed}
 use Rattle.bus.proofs.Ranges as bus
-use Rattle.chip.specs.Act.{out}
+use Rattle.chip.specs.Act.{end}
 use Rattle.machine.specs.declared.Machine.{Machine}
 use Rattle.machine.specs.declared.Look.{Look}
 use Rattle.machine.specs.Machine.{onChip, passedOf}
@@ -66,7 +66,7 @@ module _ (t : Terms) (s : State) where
   -- as long as nothing stirs, a boundary is the next instruction
   pub stride-turn : (c d : Registers) (j i k : ℕ) (memory after : Memories) (l : Lent) → s .cycles .0 + j < t .limit → stirs (t .session) s j ≡ false
       → idles c ≡ false → c .codes .i ≡ s .machine .chip .registers .codes .i
-      → Steps memory (strodeOf s c j i .machine) k (out d (passed j (s .machine .chip .bus)) after)
+      → Steps memory (strodeOf s c j i .machine) k (end d (passed k (passed j (s .machine .chip .bus))) after)
       → boundaryOf t (worldOf (strodeOf s c j i) (withMemories l memory)) ≡ more (worldOf (strodeOf s d (j + k) (i + 1)) (withMemories l after))
   unfolding passed
   stride-turn c d j i k memory after l b still awake masked e =

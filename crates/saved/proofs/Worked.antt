@@ -5,11 +5,12 @@ use mathlib.Core.Bool.{true, false}
 use mathlib.Core.List.{List, [], _∷_}
 use Rattle.arithmetic.specs.Codes.{codesByte, codesOf}
 use Rattle.ports.specs.Ports.{portsRanges, resetPorts}
-use Rattle.timer.specs.Timer.{timerRanges, resetTimer}
-use Rattle.serial.specs.Serial.{trcsOf, serialRanges, resetSerial}
+use Rattle.timer.specs.Timer.{ticks, timerRanges, resetTimer}
+use Rattle.serial.specs.Serial.{trcsOf, ticksSerial, serialRanges, resetSerial}
 use Rattle.bus.specs.Access.{memories, readOf}
-use Rattle.bus.specs.Units.{resetBus, busRanges}
-use Rattle.chip.specs.Act.{run, read, _>>=_}
+use Rattle.bus.specs.Units.{passed, resetBus, busRanges}
+use Rattle.moments.specs.Moment.{toNext, readAt, ended}
+use Rattle.chip.specs.Act.{timed, run, read, _>>=_}
 use Rattle.chip.specs.Instructions.{read2}
 use Rattle.machine.specs.declared.Machine.{Machine}
 use Rattle.machine.specs.Machine.{resetAct, resetOf, cold}
@@ -33,11 +34,12 @@ poweredBytes =
     ∷ []
 
 pub powered-saved : savedOf powered ≡ poweredBytes
-unfolding savedOf resetOf resetAct resetBus resetPorts resetTimer resetSerial readOf run read _>>=_ read2 codesByte trcsOf
+unfolding savedOf resetOf resetAct resetBus resetPorts resetTimer resetSerial readOf passed ticks ticksSerial toNext readAt ended timed run read _>>=_ read2 codesByte trcsOf
 powered-saved = refl
 
 pub powered-loaded : loadOf poweredBytes ≡ gives powered
-unfolding loadOf machineIn standsOf rangesIn busRanges portsRanges timerRanges serialRanges resetOf resetAct resetBus resetPorts resetTimer resetSerial readOf run read _>>=_ read2 codesOf
+unfolding loadOf machineIn standsOf rangesIn busRanges portsRanges timerRanges serialRanges resetOf resetAct resetBus resetPorts resetTimer resetSerial
+    readOf passed ticks ticksSerial toNext readAt ended timed run read _>>=_ read2 codesOf
 powered-loaded = refl
 
 -- a machine whose fields are all told apart

@@ -1,8 +1,6 @@
-use native.Mathlib.Nat.{le-trans}
 use borrow.Author.Needs.{needs}
 use Rattle.plain.proofs.Hopping.{is-made, is-left}
-use Rattle.chip.proofs.ActLaws.{after, ends}
-use Rattle.plain.proofs.Accesses.{reads, writes}
+use Rattle.plain.proofs.Accesses.{after, ends, reads, writes}
 use Rattle.chip.specs.Shapes.{modifies}
 use Rattle.plain.proofs.modify.Statement.{statement}
 use Rattle.plain.proofs.modify.Tie as tie
@@ -18,10 +16,10 @@ modify-spec =
     (λ c κs. search needs)  -- write-plain-requires
     (λ c κs. search needs)  -- with-codes-requires
     (λ c. search needs)  -- same-length
-    (λ c. is-made _ _ _ _ _ _ (λ b area f r. after _ _ _ _
-    (reads _ _ _ _ (le-trans f (c .before .before .before .before .before .before .before .before .if1 .left))
+    (λ c. is-made _ _ _ _ _ _ (after _ _ _ _ _
+    (reads _ _ (c .before .before .before .before .before .before .before .before .if1 .left)
     (c .before .before .before .before .before .before .peek .ensures))
-    (after _ _ _ _
-    (writes _ _ _ _ _ (le-trans f (c .before .before .before .before .before .before .before .before .if1 .left))
-    (rw (c .before .before .before .before .before .monadic .ensures) at (c .before .before .before .write-plain .ensures b area r)))
+    (after _ _ _ _ _
+    (writes _ _ _ _ (c .before .before .before .before .before .before .before .before .if1 .left)
+    (rw (c .before .before .before .before .before .monadic .ensures) at (c .before .before .before .write-plain .ensures)))
     (ends _ _ _ (rw (c .with-codes .ensures, c .before .before .before .before .before .monadic .ensures)))))))  -- returns-2

@@ -1,9 +1,7 @@
-use native.Mathlib.Nat.{le-trans}
 use borrow.Author.Needs.{needs}
 use Rattle.plain.proofs.Hopping.{is-made, is-left}
 use mathlib.Core.Path.{sym}
-use Rattle.chip.proofs.ActLaws.{after, ends}
-use Rattle.plain.proofs.Accesses.{writes}
+use Rattle.plain.proofs.Accesses.{after, ends, writes}
 use Rattle.chip.specs.Shapes.{stores}
 use Rattle.plain.proofs.store.Statement.{statement}
 use Rattle.plain.proofs.store.Tie as tie
@@ -19,8 +17,7 @@ store-spec =
     (λ c κs. search needs)  -- write-plain-requires
     (λ c κs. search needs)  -- stored-requires
     (λ c. search needs)  -- same-length
-    (λ c. is-made _ _ _ _ _ _ (λ b area f r. after _ _ _ _
-    (writes _ _ _ _ _ (le-trans f
-    (rw (c .before .before .before .before .before .before .before .address .ensures) at (c .before .before .before .before .before .before .if1 .left)))
-    (rw (c .before .before .before .before .before .before .before .address .ensures, c .before .before .before .before .byte .ensures) at (c .before .before .before .write-plain .ensures b area r)))
+    (λ c. is-made _ _ _ _ _ _ (after _ _ _ _ _
+    (writes _ _ _ _ (rw (c .before .before .before .before .before .before .before .address .ensures) at (c .before .before .before .before .before .before .if1 .left))
+    (rw (c .before .before .before .before .before .before .before .address .ensures, c .before .before .before .before .byte .ensures) at (c .before .before .before .write-plain .ensures)))
     (ends _ _ _ (sym (c .stored .ensures))))))  -- returns-2

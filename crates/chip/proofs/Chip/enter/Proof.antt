@@ -1,5 +1,5 @@
+use Rattle.chip.proofs.ActLaws.{whole}
 use borrow.Author.Needs.{needs}
-use Rattle.chip.proofs.Entry.{enter-waiting, enter-stacking}
 use Rattle.chip.proofs.Chip.enter.Statement.{statement}
 use Rattle.chip.proofs.Chip.enter.Tie as tie
 
@@ -7,13 +7,11 @@ pub enter-spec : {M : Type 1} → statement M
 enter-spec =
     tie.close
     (tie.spec
-    (λ c κs. search needs)  -- vectored-requires
+    (λ c κs. search needs)  -- entry-accesses-requires
+    (λ c κs. search needs)  -- begin-requires
+    (λ c κs. search needs)  -- enter-requires
+    (λ c κs. search needs)  -- end-requires
     (λ c. search needs)  -- same-length
     (λ c. search needs)  -- same-length-2
-    (λ c. enter-waiting _ _ _ _ (c .before .before .before .if1 .taken) (c .vectored .ensures))  -- returns
-    (λ c κs. search needs)  -- stack-all-requires
-    (λ c κs. search needs)  -- vectored-requires-2
-    (λ c. search needs)  -- same-length-3
-    (λ c. search needs)  -- same-length-4
-    (λ c. enter-stacking _ _ _ _ (c .before .before .before .before .before .before .before .before .before .before .if1 .left)
-    (c .before .before .before .before .before .before .before .stack-all .ensures) (c .vectored2 .ensures)))  -- returns-2
+    (λ c. rw (c .end .ensures .0) (whole _ _ _ _ _ (c .before .before .before .before .before .before .before .before .before .entry-accesses .ensures) (c .before .before .before .before .before .before .before .before .begin .ensures .1)
+    (rw (c .before .before .before .before .before .before .before .before .begin .ensures .0) at (c .before .before .before .before .before .enter .ensures)) (c .end .ensures .1))))  -- returns

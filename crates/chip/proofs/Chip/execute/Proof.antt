@@ -1,21 +1,17 @@
+use Rattle.chip.proofs.ActLaws.{whole}
 use borrow.Author.Needs.{needs}
-use mathlib.Core.Path.{refl}
-use Rattle.chip.proofs.ActLaws.{after, by-read}
-use Rattle.chip.specs.Instructions.{execute}
 use Rattle.chip.proofs.Chip.execute.Statement.{statement}
 use Rattle.chip.proofs.Chip.execute.Tie as tie
 
 pub execute-spec : {M : Type 1} → statement M
-unfolding execute
 execute-spec =
     tie.close
     (tie.spec
-    (λ c κs. search needs)  -- fetched-requires
-    (λ c κs. search needs)  -- locate-requires
-    (λ c κs. search needs)  -- operate-requires
+    (λ c κs. search needs)  -- accesses-requires
+    (λ c κs. search needs)  -- begin-requires
+    (λ c κs. search needs)  -- execute-requires
+    (λ c κs. search needs)  -- end-requires
     (λ c. search needs)  -- same-length
     (λ c. search needs)  -- same-length-2
-    (λ c. after _ _ _ _ (by-read _ _ _ refl)
-    (after _ _ _ _ (rw (c .before .before .before .before .before .before .before .before .before .before .fetched .ensures
-    (c .before .before .before .before .before .before .before .before .before .before .before .before .before .before .args .area .now)) at
-    (c .before .before .before .before .before .before .before .locate .ensures)) (c .before .before .before .before .operate .ensures))))  -- returns
+    (λ c. rw (c .end .ensures .0) (whole _ _ _ _ _ (c .before .before .before .before .before .before .before .before .before .accesses .ensures) (c .before .before .before .before .before .before .before .before .begin .ensures .1)
+    (rw (c .before .before .before .before .before .before .before .before .begin .ensures .0) at (c .before .before .before .before .before .execute .ensures)) (c .end .ensures .1))))  -- returns

@@ -1,0 +1,51 @@
+-- The units in the middle of an instruction. 02: "Every memory read and write is now told which cycle of its instruction it stands in .. and sees timer
+-- and flags as of that cycle": one in cycle k sees, and acts on, the state after k - 1 cycles, and the other cycles pass after it.
+use Prim.Native.Nat.{ℕ, _+_, _-_}
+use mathlib.Core.List.{List, [], _∷_}
+use Rattle.bus.specs.declared.Bus.{Bus}
+use Rattle.bus.specs.Access.{Memories, readOf, writeOf, storeOf}
+use Rattle.bus.specs.Units.{passed}
+
+-- the units, how many cycles of the instruction have passed, and the cycle of each access to come
+pub record Moment : Type 0 where
+  pub bus : Bus
+  pub cycle : ℕ
+  pub ahead : List ℕ
+
+abbrev pub moment : Bus → ℕ → List ℕ → Moment
+moment b c ks = record { bus = b; cycle = c; ahead = ks }
+
+-- an instruction begins, whose accesses stand in the cycles listed
+abbrev pub begun : List ℕ → Bus → Moment
+begun ks b = moment b 0 ks
+
+-- the moment of the next access: the cycles before its own have passed. Where no cycle is listed, as at a reset, none passes.
+unfoldable pub toNext : Bus → ℕ → List ℕ → Moment
+toNext b c [] = moment b c []
+toNext b c (k ∷ ks) = moment (passed (k - 1 - c) b) (c + (k - 1 - c)) ks
+
+abbrev pub next : Moment → Moment
+next o = toNext (o .bus) (o .cycle) (o .ahead)
+
+-- a read at its moment
+pub record Read : Type 0 where
+  pub value : ℕ
+  pub next : Moment
+
+unfoldable pub readAt : Memories → ℕ → Moment → Read
+readAt memory at o =
+    let n = next o in
+    record { value = readOf memory at (n .bus) .value; next = moment (readOf memory at (n .bus) .next) (n .cycle) (n .ahead) }
+
+-- a write at its moment: the units after it, and the memories
+unfoldable pub writeAt : ℕ → ℕ → Moment → Moment
+writeAt at v o =
+    let n = next o in
+    moment (writeOf at v (n .bus)) (n .cycle) (n .ahead)
+
+unfoldable pub storeAt : ℕ → ℕ → Moment → Memories → Memories
+storeAt at v o memory = storeOf (next o .bus) at v memory
+
+-- the rest of an instruction of n cycles has passed
+unfoldable pub ended : ℕ → Moment → Bus
+ended n o = passed (n - o .cycle) (o .bus)
