@@ -5,7 +5,7 @@ use mathlib.Core.Path.{_≡_, refl, sym, ap, _∙_, subst⁻¹}
 use Rattle.bus.specs.declared.Bus.{Bus}
 use Rattle.bus.specs.Access.{Memories}
 use Rattle.moments.specs.Moment.{Moment, Read, begun, readAt, writeAt, storeAt, ended}
-use Rattle.chip.specs.Act.{Act, Act.done, Act.reading, Act.writing, _>>=_, read, write, Out, out, run, End, end, ending, timed}
+use Rattle.chip.specs.Act.{Act, Act.done, Act.reading, Act.writing, _>>=_, read, write, Out, out, run, end, ending, timed}
 
 pub run-then : {A B : Type 0} (t : Act A) (f : A → Act B) (o : Moment) (m : Memories)
     → run (t >>= f) o m ≡ run (f (run t o m .value)) (run t o m .units) (run t o m .memory)
@@ -42,10 +42,3 @@ whole ks n t b m {p} l e r f =
     ap (λ (x : Moment). ending n (run t x m)) (sym (e ∙ ap (λ (x : List ℕ). begun x b) l))
     ∙ ap (ending n) r
     ∙ ap (λ (x : Bus). end (p .value) x (p .memory)) (sym f)
-
--- its result, worked on
-pub timed-done : {A B : Type 0} (ks : List ℕ) (n : ℕ) (t : Act A) (f : A → B) (b : Bus) (m : Memories) {e : End A}
-    → timed ks n t b m ≡ e → timed ks n (t >>= (λ a. done (f a))) b m ≡ end (f (e .value)) (e .bus) (e .memory)
-unfolding timed run
-timed-done {A} ks n t f b m p =
-    ap (ending n) (run-then t (λ a. done (f a)) (begun ks b) m) ∙ ap (λ (x : End A). end (f (x .value)) (x .bus) (x .memory)) p

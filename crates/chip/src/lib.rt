@@ -50,11 +50,6 @@ pub struct WordRead {
     pub next: Clocked,
 }
 
-pub struct WordFetched {
-    pub value: u16,
-    pub next: Bus,
-}
-
 pub struct Located {
     pub at: u16,
     pub core: Core,
@@ -478,17 +473,5 @@ impl Chip {
         let p = self.begin(timing::entry_accesses(self.registers.waiting))
             .enter(vector, image, area);
         p.end(cycles)
-    }
-}
-
-// Two bytes, the high one first, while no cycle passes.
-pub fn fetch_word(b: Bus, image: &[u8], area: &[u8], at: u16) -> WordFetched
-    ensures { λ r. ⌜ timed [] 0 (read2 at) b (memories (now (image .entry)) (now (area .entry)))
-        ≡ end (r .value) (r .next) (memories (now (image .entry)) (now (area .entry))) ⌝ }
-{
-    let w = read_word(moments::begin(b, 0), image, area, at);
-    WordFetched {
-        value: w.value,
-        next: w.next.finish(0),
     }
 }

@@ -12,6 +12,7 @@ use session::Event;
 use tables::Vector;
 use timer::Timer;
 ghost use mathlib.Core.Path.{_≡_};
+ghost use mathlib.Core.List.{List};
 ghost use Prim.Native.Nat.{ℕ};
 ghost use Rattle.bus.specs.Access.{memories, readOf};
 ghost use Rattle.bus.specs.Units.{byteSent};
@@ -130,7 +131,7 @@ pub fn power_on(image: &[u8], r: u32) -> Power
     if r > 65536 {
         return Power::WrongStart;
     }
-    Power::On(cold_machine(r).reset(image, &image[..0]))
+    Power::On(cold_machine(r).reset(image))
 }
 
 fn vector_for(cause: Cause) -> Vector
@@ -203,20 +204,18 @@ impl Machine {
         self.with_bus(self.chip.bus.send())
     }
 
-    pub fn reset(self, image: &[u8], area: &[u8]) -> Machine
-        ensures { λ r. ⌜ r ≡ resetOf (memories (now (image .entry)) (now (area .entry))) self ⌝ }
+    // No cycle passes, and the vector stands in the image.
+    pub fn reset(self, image: &[u8]) -> Machine
+        ensures { λ r. ⌜ ((area : List ℕ) → r ≡ resetOf (memories (now (image .entry)) area) self) ⌝ }
     {
-        let w = chip::fetch_word(
-            self.chip.bus.reset(),
-            image,
-            area,
-            tables::address_of(Vector::Reset),
+        let vector = tables::address_of(Vector::Reset);
+        let pc = bits::pair(
+            bus::peek(image, vector),
+            bus::peek(image, bits::plus(vector, 1)),
         );
-        let bus = w.next;
-        let registers = reset_registers(w.value);
         let chip = Chip {
-            registers: registers,
-            bus: bus,
+            registers: reset_registers(pc),
+            bus: self.chip.bus.reset(),
         };
         Machine {
             chip: chip,
@@ -290,7 +289,7 @@ impl Machine {
             }
             Event::Received(v, stop) => self.with_bus(self.chip.bus.receive(v, stop)),
             Event::Idle => self.with_bus(self.chip.bus.idle()),
-            Event::Reset => self.reset(image, area),
+            Event::Reset => self.reset(image),
         }
     }
 
@@ -323,12 +322,8 @@ impl Machine {
     fn opcode(self, image: &[u8], area: &[u8]) -> u8
         ensures { λ r. ⌜ r ≡ readOf (memories (now (image .entry)) (now (area .entry))) (self .chip .registers .pc) (self .chip .bus) .value ⌝ }
     {
-        let pc = self.chip.registers.pc;
-        if pc < 32 {
-            let f = self.chip.bus.read_low(image, pc);
-            return f.value;
-        }
-        bus::held(image, area, self.chip.bus.rame, pc)
+        let f = moments::begin(self.chip.bus, 0).read(image, area, self.chip.registers.pc);
+        f.value
     }
 
     // What stands at PC, with no effect on the machine.

@@ -27,21 +27,24 @@ toNext b c (k ∷ ks) = moment (passed (k - 1 - c) b) (c + (k - 1 - c)) ks
 abbrev pub next : Moment → Moment
 next o = toNext (o .bus) (o .cycle) (o .ahead)
 
--- a read at its moment
+-- a read, and the units after a write, at a moment
 pub record Read : Type 0 where
   pub value : ℕ
   pub next : Moment
 
-unfoldable pub readAt : Memories → ℕ → Moment → Read
-readAt memory at o =
-    let n = next o in
-    record { value = readOf memory at (n .bus) .value; next = moment (readOf memory at (n .bus) .next) (n .cycle) (n .ahead) }
+abbrev pub readNow : Memories → ℕ → Moment → Read
+readNow memory at o =
+    record { value = readOf memory at (o .bus) .value; next = moment (readOf memory at (o .bus) .next) (o .cycle) (o .ahead) }
 
--- a write at its moment: the units after it, and the memories
+abbrev pub writeNow : ℕ → ℕ → Moment → Moment
+writeNow at v o = moment (writeOf at v (o .bus)) (o .cycle) (o .ahead)
+
+-- the next access at its own moment; of a write also what it leaves in the memories
+unfoldable pub readAt : Memories → ℕ → Moment → Read
+readAt memory at o = readNow memory at (next o)
+
 unfoldable pub writeAt : ℕ → ℕ → Moment → Moment
-writeAt at v o =
-    let n = next o in
-    moment (writeOf at v (n .bus)) (n .cycle) (n .ahead)
+writeAt at v o = writeNow at v (next o)
 
 unfoldable pub storeAt : ℕ → ℕ → Moment → Memories → Memories
 storeAt at v o memory = storeOf (next o .bus) at v memory

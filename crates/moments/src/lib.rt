@@ -1,11 +1,12 @@
 // The bus in the middle of an instruction: each access at its own moment.
 use bus::Bus;
+use bus::held;
 ghost use mathlib.Core.Path.{_≡_};
 ghost use mathlib.Core.List.{List};
 ghost use Prim.Native.Nat.{ℕ, _-_, _<_};
-ghost use Rattle.bus.specs.Access.{memories};
+ghost use Rattle.bus.specs.Access.{memories, storeOf};
 ghost use Rattle.timing.specs.Digits.{listed};
-ghost use Rattle.moments.specs.Moment.{begun, next, readAt, writeAt, storeAt, ended};
+ghost use Rattle.moments.specs.Moment.{begun, next, readNow, writeNow, readAt, writeAt, storeAt, ended};
 ghost use Rattle.moments.specs.Clocked.{lag, momentOf, readOn};
 
 // `cycle`: how many cycles of the instruction have passed. `shown`: how many of them the units have seen; they are shown the others before an access that
@@ -70,22 +71,13 @@ impl Clocked {
         self
     }
 
-    // The moment of the next access, where its address is `at`: from $20 on it cannot tell by how much the units lag.
-    fn turn(self, at: u16) -> Clocked
-        ensures { λ r. ⌜ momentOf r ≡ next (momentOf self) ⌝ ∗ ⌜ (at < 32 → lag r ≡ 0) ⌝ }
+    // A read below $20, now.
+    fn read_low(self, image: &[u8], at: u16) -> Seen
+        requires { ⌜ at < 32 ⌝ }
+        ensures { λ r. ⌜ ((area : List ℕ) → readOn r ≡ readNow (memories (now (image .entry)) area) at (momentOf self)) ⌝ }
     {
-        let c = self.advance();
-        if at < 32 {
-            return c.catch_up();
-        }
-        c
-    }
-
-    pub fn read(self, image: &[u8], area: &[u8], at: u16) -> Seen
-        ensures { λ r. ⌜ readOn r ≡ readAt (memories (now (image .entry)) (now (area .entry))) at (momentOf self) ⌝ }
-    {
-        let c = self.turn(at);
-        let f = c.bus.read(image, area, at);
+        let c = self.catch_up();
+        let f = c.bus.read_low(image, at);
         let next = c.with(f.next);
         Seen {
             value: f.value,
@@ -93,14 +85,39 @@ impl Clocked {
         }
     }
 
+    // A write below $20, now.
+    fn write_low(self, image: &mut [u8], at: u16, v: u8) -> Clocked
+        requires { ⌜ at < 32 ⌝ }
+        ensures { λ r. ⌜ momentOf r ≡ writeNow at v (momentOf self) ⌝
+            ∗ ⌜ ((area : List ℕ) → memories (now (image .exit)) area ≡ storeOf (momentOf self .bus) at v (memories (now (image .entry)) area)) ⌝ }
+    {
+        let c = self.catch_up();
+        let bus = c.bus.write_low(image, at, v);
+        c.with(bus)
+    }
+
+    // From $20 on an access cannot tell by how much the units lag.
+    pub fn read(self, image: &[u8], area: &[u8], at: u16) -> Seen
+        ensures { λ r. ⌜ readOn r ≡ readAt (memories (now (image .entry)) (now (area .entry))) at (momentOf self) ⌝ }
+    {
+        let c = self.advance();
+        if at < 32 {
+            return c.read_low(image, at);
+        }
+        Seen {
+            value: held(image, area, c.bus.rame, at),
+            next: c,
+        }
+    }
+
     // The opcode's read, whose value is known: from $20 on it has no effect.
     pub fn fetch(self, image: &[u8], at: u16) -> Clocked
         ensures { λ r. ⌜ ((area : List ℕ) → momentOf r ≡ readAt (memories (now (image .entry)) area) at (momentOf self) .next) ⌝ }
     {
-        let c = self.turn(at);
+        let c = self.advance();
         if at < 32 {
-            let f = c.bus.read_low(image, at);
-            return c.with(f.next);
+            let f = c.read_low(image, at);
+            return f.next;
         }
         c
     }
@@ -109,9 +126,12 @@ impl Clocked {
         ensures { λ r. ⌜ momentOf r ≡ writeAt at v (momentOf self) ⌝
             ∗ ⌜ memories (now (image .exit)) (now (area .exit)) ≡ storeAt at v (momentOf self) (memories (now (image .entry)) (now (area .entry))) ⌝ }
     {
-        let c = self.turn(at);
-        let bus = c.bus.write(image, area, at, v);
-        c.with(bus)
+        let c = self.advance();
+        if at < 32 {
+            return c.write_low(image, at, v);
+        }
+        c.bus.write_high(image, area, at, v);
+        c
     }
 
     // The rest of n cycles passes.
