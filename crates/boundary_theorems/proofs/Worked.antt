@@ -16,7 +16,7 @@ use Rattle.bus.specs.declared.Bus.{Bus}
 use Rattle.bus.specs.Access.{memories, readOf, writeOf, storeOf}
 use Rattle.bus.specs.Units.{passed, resetBus}
 use Rattle.timing.specs.Table.{accessCycles}
-use Rattle.moments.specs.Moment.{toNext, readAt, writeAt, storeAt, ended}
+use Rattle.moments.specs.Moment.{toNext, readAt, writeAt, storedAt, ended}
 use Rattle.chip.specs.Act.{timed, run, read, write, _>>=_}
 use Rattle.chip.specs.Instructions.{read2, operand, dyadic, sta, push, push2, stackAll, vectored, wai, enter, operate, execute}
 use Rattle.session.specs.Session.{lengthAt, kindAt, timeAt, payloadAt, nextAt, eventOf, dueAt}
@@ -94,7 +94,7 @@ table =
 
 pub worked : map found table ≡ map meant table
 unfolding turns loopOf decodeOf codesByte codesOf movedOf dyadicOf resetPorts ticks resetTimer trcsOf readSerial writeSerial idleLine wantsToSend
-    sentOf ticksSerial resetSerial serialRequest readOf writeOf storeOf passed resetBus accessCycles toNext readAt writeAt storeAt ended timed run read write _>>=_ read2 operand dyadic sta push push2
+    sentOf ticksSerial resetSerial serialRequest readOf writeOf storeOf passed resetBus accessCycles toNext readAt writeAt storedAt ended timed run read write _>>=_ read2 operand dyadic sta push push2
     stackAll vectored wai enter operate execute lengthAt kindAt timeAt payloadAt nextAt eventOf dueAt resetAct resetOf pendingOf appliedOf
     enteredOf lookOf stepOf recordTaken recordTurn recordsOf sentState enteredWorld waitedState actOf sendOf boundaryOf runOf markOf visits
     pathOf rowsOf traceOf

@@ -4,7 +4,7 @@ use mathlib.Core.List.{List}
 use mathlib.Core.Path.{_≡_, refl, sym, ap, _∙_, subst⁻¹}
 use Rattle.bus.specs.declared.Bus.{Bus}
 use Rattle.bus.specs.Access.{Memories}
-use Rattle.moments.specs.Moment.{Moment, Read, begun, readAt, writeAt, storeAt, ended}
+use Rattle.moments.specs.Moment.{Moment, Read, begun, readAt, writeAt, storedAt, ended}
 use Rattle.chip.specs.Act.{Act, Act.done, Act.reading, Act.writing, _>>=_, read, write, Out, out, run, end, ending, timed}
 
 pub run-then : {A B : Type 0} (t : Act A) (f : A → Act B) (o : Moment) (m : Memories)
@@ -12,7 +12,7 @@ pub run-then : {A B : Type 0} (t : Act A) (f : A → Act B) (o : Moment) (m : Me
 unfolding run _>>=_
 run-then (done a) f o m = refl
 run-then (reading at k) f o m = run-then (k (readAt m at o .value)) f (readAt m at o .next) m
-run-then (writing at v t) f o m = run-then t f (writeAt at v o) (storeAt at v o m)
+run-then (writing at v t) f o m = run-then t f (writeAt at v o) (storedAt at v o m)
 
 -- one part after another, by what the first comes to
 pub after : {A B : Type 0} (t : Act A) (f : A → Act B) (b : Moment) (m : Memories) {o : Out A} {z : Out B}
@@ -30,7 +30,7 @@ unfolding run read
 by-read m at o e = ap (λ (f : Read). out (f .value) (f .next) m) (sym e)
 
 pub by-write : (at v : ℕ) (o : Moment) (m : Memories) {c : Moment} {n : Memories}
-    → c ≡ writeAt at v o → n ≡ storeAt at v o m → run (write at v) o m ≡ out tt c n
+    → c ≡ writeAt at v o → n ≡ storedAt at v o m → run (write at v) o m ≡ out tt c n
 unfolding run write
 by-write at v o m e d = λ i. out tt (sym e i) (sym d i)
 

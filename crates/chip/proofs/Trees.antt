@@ -10,7 +10,7 @@ use Rattle.bus.specs.Access.{Memories, readOf, writeOf, storeOf}
 use Rattle.bus.specs.Units.{passed, busRanges}
 use Rattle.bus.proofs.Ranges.{read-ranges, write-ranges, passed-ranges, read-r, write-r}
 use Rattle.bus.proofs.Stores.{Spared, spared-all, spared-then, store-spared}
-use Rattle.moments.specs.Moment.{Moment, begun, toNext, next, readAt, writeAt, storeAt, ended}
+use Rattle.moments.specs.Moment.{Moment, begun, toNext, next, readAt, writeAt, storedAt, ended}
 use Rattle.chip.specs.Act.{Act, Act.done, Act.reading, Act.writing, run, timed}
 
 -- what each cycle, each read and each write keeps, a tree keeps
@@ -24,12 +24,12 @@ module _ (P : Bus → Memories → Type 0)
   next-keeps b c (k ∷ ks) m h = passes (k - 1 - c) b m h
 
   run-keeps : {A : Type 0} (t : Act A) (o : Moment) (m : Memories) → P (o .bus) m → P (run t o m .units .bus) (run t o m .memory)
-  unfolding run readAt writeAt storeAt
+  unfolding run readAt writeAt storedAt
   run-keeps (done a) o m h = h
   run-keeps (reading at k) o m h =
       run-keeps (k (readAt m at o .value)) (readAt m at o .next) m (reads at (next o .bus) m (next-keeps (o .bus) (o .cycle) (o .ahead) m h))
   run-keeps (writing at v t) o m h =
-      run-keeps t (writeAt at v o) (storeAt at v o m) (writes at v (next o .bus) m (next-keeps (o .bus) (o .cycle) (o .ahead) m h))
+      run-keeps t (writeAt at v o) (storedAt at v o m) (writes at v (next o .bus) m (next-keeps (o .bus) (o .cycle) (o .ahead) m h))
 
   pub timed-keeps : {A : Type 0} (ks : List ℕ) (n : ℕ) (t : Act A) (b : Bus) (m : Memories) → P b m
       → P (timed ks n t b m .bus) (timed ks n t b m .memory)

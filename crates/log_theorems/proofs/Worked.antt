@@ -13,7 +13,7 @@ use Rattle.timer.specs.Timer.{ticks, resetTimer}
 use Rattle.serial.specs.Serial.{trcsOf, readSerial, writeSerial, idleLine, wantsToSend, sentOf, ticksSerial, resetSerial, serialRequest}
 use Rattle.bus.specs.Access.{memories, readOf, writeOf, storeOf}
 use Rattle.bus.specs.Units.{passed, resetBus}
-use Rattle.moments.specs.Moment.{toNext, readAt, writeAt, storeAt, ended}
+use Rattle.moments.specs.Moment.{toNext, readAt, writeAt, storedAt, ended}
 use Rattle.chip.specs.Act.{timed, run, read, write, _>>=_}
 use Rattle.chip.specs.Instructions.{read2, push, push2, stackAll, vectored, enter}
 use Rattle.session.specs.Session.{lengthAt, kindAt, timeAt, payloadAt, nextAt, eventOf, dueAt}
@@ -69,7 +69,7 @@ table =
 
 pub worked : map found table ≡ map meant table
 unfolding turns loopOf decodeOf codesByte codesOf resetPorts ticks resetTimer trcsOf readSerial writeSerial idleLine wantsToSend sentOf ticksSerial
-    resetSerial serialRequest readOf writeOf storeOf passed resetBus toNext readAt writeAt storeAt ended timed run read write _>>=_ read2 push push2 stackAll vectored enter lengthAt kindAt
+    resetSerial serialRequest readOf writeOf storeOf passed resetBus toNext readAt writeAt storedAt ended timed run read write _>>=_ read2 push push2 stackAll vectored enter lengthAt kindAt
     timeAt payloadAt nextAt eventOf dueAt littleEndian resetAct resetOf pendingOf appliedOf enteredOf lookOf stepOf withRow recordTaken recordTurn
     recordsOf sentState loggedOf enteredWorld waitedState actOf sendOf boundaryOf runOf visits pathOf rowsOf wakesAt wakesOf
 worked = refl

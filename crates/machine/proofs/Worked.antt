@@ -19,7 +19,7 @@ use Rattle.bus.specs.declared.Bus.{Bus}
 use Rattle.bus.specs.Access.{Memories, memories, withTimer, readOf, writeOf, storeOf}
 use Rattle.bus.specs.Units.{passed, resetBus}
 use Rattle.timing.specs.Table.{accessCycles}
-use Rattle.moments.specs.Moment.{toNext, readAt, writeAt, storeAt, ended}
+use Rattle.moments.specs.Moment.{toNext, readAt, writeAt, storedAt, ended}
 use Rattle.chip.specs.Act.{timed, run, read, write, _>>=_}
 use Rattle.chip.specs.Instructions.{read2, operand, monadic, sta, wide, push, push2, stackAll, vectored, enter, operate, execute}
 use Rattle.session.specs.declared.Event.the-variants.{Received}
@@ -132,7 +132,7 @@ table =
 pub worked : map found table ≡ map meant table
 unfolding resetOf resetAct lookOf stepOf enteredOf appliedOf decodeOf codesByte codesOf movedOf sub16Of monadicOf daaOf mulOf xor
     readPort readPorts resetPorts readTimer writeTimer ticks resetTimer trcsOf writeSerial receivedByte ticksSerial resetSerial readOf writeOf storeOf passed resetBus
-    accessCycles timed toNext readAt writeAt storeAt ended run read write _>>=_ read2 operand monadic sta wide push push2 stackAll vectored enter operate execute
+    accessCycles timed toNext readAt writeAt storedAt ended run read write _>>=_ read2 operand monadic sta wide push push2 stackAll vectored enter operate execute
 worked = refl
 
 -- "Power-on read of $03: 5A", whatever the image and R

@@ -46,8 +46,8 @@ readAt memory at o = readNow memory at (next o)
 unfoldable pub writeAt : ℕ → ℕ → Moment → Moment
 writeAt at v o = writeNow at v (next o)
 
-unfoldable pub storeAt : ℕ → ℕ → Moment → Memories → Memories
-storeAt at v o memory = storeOf (next o .bus) at v memory
+unfoldable pub storedAt : ℕ → ℕ → Moment → Memories → Memories
+storedAt at v o memory = storeOf (next o .bus) at v memory
 
 -- the rest of an instruction of n cycles has passed
 unfoldable pub ended : ℕ → Moment → Bus

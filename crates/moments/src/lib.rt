@@ -6,7 +6,7 @@ ghost use mathlib.Core.List.{List};
 ghost use Prim.Native.Nat.{ℕ, _-_, _<_};
 ghost use Rattle.bus.specs.Access.{memories, storeOf};
 ghost use Rattle.timing.specs.Digits.{listed};
-ghost use Rattle.moments.specs.Moment.{begun, next, readNow, writeNow, readAt, writeAt, storeAt, ended};
+ghost use Rattle.moments.specs.Moment.{begun, next, readNow, writeNow, readAt, writeAt, storedAt, ended};
 ghost use Rattle.moments.specs.Clocked.{lag, momentOf, readOn};
 
 // `cycle`: how many cycles of the instruction have passed. `shown`: how many of them the units have seen; they are shown the others before an access that
@@ -124,7 +124,7 @@ impl Clocked {
 
     pub fn write(self, image: &mut [u8], area: &mut [u8], at: u16, v: u8) -> Clocked
         ensures { λ r. ⌜ momentOf r ≡ writeAt at v (momentOf self) ⌝
-            ∗ ⌜ memories (now (image .exit)) (now (area .exit)) ≡ storeAt at v (momentOf self) (memories (now (image .entry)) (now (area .entry))) ⌝ }
+            ∗ ⌜ memories (now (image .exit)) (now (area .exit)) ≡ storedAt at v (momentOf self) (memories (now (image .entry)) (now (area .entry))) ⌝ }
     {
         let c = self.advance();
         if at < 32 {

@@ -15,7 +15,7 @@ use Rattle.bus.specs.Units.{passed}
 use Rattle.bus.proofs.Area.{outside-no-area}
 use Rattle.bus.proofs.Ranges.{passed-add}
 use Rattle.bus.proofs.Stores.{image-read, plain-write, plain-store}
-use Rattle.moments.specs.Moment.{Moment, moment, begun, toNext, next, readAt, writeAt, storeAt, ended}
+use Rattle.moments.specs.Moment.{Moment, moment, begun, toNext, next, readAt, writeAt, storedAt, ended}
 use Rattle.chip.specs.Act.{Act, Act.done, Act.reading, Act.writing, run, End, end, ending, timed}
 use Rattle.plain.specs.Plainly.{floorOf, Came, onImage, Plain, Comes}
 
@@ -68,7 +68,7 @@ with-bus area c b = end (c .value) b (memories (c .image) area)
 
 plain-run : {A : Type 0} (n floor start : ℕ) (area : List ℕ) (t : Act A) (o : Moment) (image : List ℕ) → Amid n floor start o → Plain t floor start image
     → ending n (run t o (memories image area)) ≡ with-bus area (onImage t start image) (ended n o)
-unfolding run readAt writeAt storeAt Plain onImage
+unfolding run readAt writeAt storedAt Plain onImage
 plain-run n floor start area (done a) o image f h = refl
 plain-run n floor start area (reading at k) o image f h =
     let g = next-amid n floor start (o .bus) (o .cycle) (o .ahead) f in

@@ -15,6 +15,7 @@ execute-spec =
     (λ c κs. search needs)  -- operate-requires
     (λ c. search needs)  -- same-length
     (λ c. search needs)  -- same-length-2
-    (λ c. after _ _ _ _ (by-read _ _ _ refl)
-    (after _ _ _ _ (rw (c .before .before .before .before .before .before .before .before .before .before .fetched .ensures .0, c .before .before .before .before .before .before .before .before .before .before .fetched .ensures .1 (c .before .before .before .before .before .before .before .before .before .before .before .before .before .before .args .area .now)) at
+    (λ c. let f = c .before .before .before .before .before .before .before .before .before .before .fetched .ensures in
+    after _ _ _ _ (by-read _ _ _ refl)
+    (after _ _ _ _ (rw (f .0, f .1 (c .before .before .before .before .before .before .before .before .before .before .before .before .before .before .args .area .now)) at
     (c .before .before .before .before .before .before .before .locate .ensures)) (c .before .before .before .before .operate .ensures))))  -- returns

@@ -11,4 +11,6 @@ write-low-spec =
     (λ c κs. search needs)  -- write-low-requires
     (λ c κs. search needs)  -- with-requires
     (λ c. search needs)  -- same-length
-    (λ c. (write-low-law _ _ _ _ (c .before .before .before .before .before .catch-up .ensures .0) (c .before .before .before .before .before .catch-up .ensures .1) (c .before .before .before .write-low .ensures .0) (c .with .ensures), λ area. store-law _ _ _ _ _ (c .before .before .before .before .before .catch-up .ensures .0) (c .before .before .before .write-low .ensures .1 area))))  -- returns
+    (λ c. let k = c .before .before .before .before .before .catch-up .ensures in
+    let w = c .before .before .before .write-low .ensures in
+    (write-low-law _ _ _ _ (k .0) (k .1) (w .0) (c .with .ensures), λ area. store-law _ _ _ _ _ (k .0) (w .1 area))))  -- returns
