@@ -3,15 +3,13 @@
 use Prim.Native.Nat.{ℕ}
 use mathlib.Core.Bool.{Bool, true, false, cond}
 use mathlib.Core.List.{List, [], _∷_}
-use mathlib.Core.Logic.{_⊎_, inl, inr}
-use mathlib.Core.Path.{_≡_, refl, subst⁻¹}
-use Rattle.opcodes.specs.declared.Accumulator.{Accumulator}
+use mathlib.Core.Logic.{inl, inr}
+use mathlib.Core.Path.{_≡_, subst⁻¹}
 use Rattle.opcodes.specs.declared.Operation.{Operation}
 use Rattle.opcodes.specs.declared.Operation.the-variants as operations
 use Rattle.opcodes.specs.declared.Instruction.{Instruction}
 use Rattle.opcodes.specs.declared.Decoded.the-variants.{Defined}
 use Rattle.opcodes.specs.declared.Place.{Place}
-use Rattle.opcodes.specs.declared.Place.the-variants.{Inherent, AccumulatorA, AccumulatorB, ImmediateByte, ImmediateWord, Direct, Indexed, Extended, Relative}
 use Rattle.opcodes.specs.Opcodes.{decodeOf}
 use Rattle.opcodes.specs.Fits.{placesOf, Among}
 use Rattle.opcodes.proofs.Fits.{fits}

@@ -1,7 +1,6 @@
 -- How the functions tell what a tree comes to: the processor on its bus, with the memories.
 use Prim.Native.Nat.{ℕ}
 use mathlib.Core.List.{List}
-use Rattle.bus.specs.declared.Bus.{Bus}
 use Rattle.bus.specs.Access.{Memories}
 use Rattle.moments.specs.declared.Clocked.{Clocked}
 use Rattle.moments.specs.Clocked.{momentOf}

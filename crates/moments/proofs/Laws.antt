@@ -4,7 +4,7 @@ use Prim.Native.Nat.{ℕ, _+_, _-_, _/_, _%_, _≤_, _<_}
 use native.Mathlib.Omega.{arith}
 use native.Mathlib.Decide.{ℕ-discrete}
 use mathlib.Core.Path.{_≡_, refl, sym, ap, _∙_}
-use mathlib.Core.List.{List, [], _∷_}
+use mathlib.Core.List.{List}
 use Rattle.timer.specs.Timer.{ticks}
 use Rattle.serial.specs.Serial.{ticksSerial}
 use Rattle.bus.specs.declared.Bus.{Bus}
@@ -16,7 +16,7 @@ use Rattle.bus.proofs.Stores.{plain-read, plain-write}
 use Rattle.timing.specs.Digits.{listed}
 use Rattle.timing.proofs.Digits.{power, listed-none, listed-more}
 use Rattle.moments.specs.declared.Clocked.{Clocked}
-use Rattle.moments.specs.Moment.{Moment, moment, toNext, next, Read, readNow, writeNow, readAt, writeAt, ended}
+use Rattle.moments.specs.Moment.{Moment, moment, toNext, next, readNow, writeNow, readAt, writeAt, ended}
 use Rattle.moments.specs.Clocked.{lag, momentOf, readOn}
 
 moment-same : {b c : Bus} {j k : ℕ} {l m : List ℕ} → b ≡ c → j ≡ k → l ≡ m → moment b j l ≡ moment c k m

@@ -10,7 +10,7 @@ use Rattle.opcodes.specs.declared.Place.{Place}
 use Rattle.opcodes.specs.declared.Place.the-variants.{Inherent, AccumulatorA, AccumulatorB, ImmediateByte, ImmediateWord}
 use Rattle.opcodes.specs.declared.Place.the-variants.{Direct, Indexed, Extended, Relative}
 
--- the accesses at a place, where those of the direct, the indexed and the extended place are given; the others make the instruction's own bytes alone
+-- by the place: its own column, direct, indexed or extended; at every other place the instruction's own bytes are all that is read
 abbrev pub placed : List ℕ → List ℕ → List ℕ → Place → List ℕ
 placed direct indexed extended Inherent = 1 ∷ []
 placed direct indexed extended AccumulatorA = 1 ∷ []
@@ -22,31 +22,38 @@ placed direct indexed extended Indexed = indexed
 placed direct indexed extended Extended = extended
 placed direct indexed extended Relative = 1 ∷ 2 ∷ []
 
--- the seven bytes of the registers, pushed or pulled from a cycle on
-abbrev pub pushes : List ℕ → List ℕ
-pushes rest = 3 ∷ 4 ∷ 5 ∷ 6 ∷ 7 ∷ 8 ∷ 9 ∷ rest
+-- all seven bytes of the registers are pushed in cycles 3 to 9
+abbrev pub stacking : List ℕ → List ℕ
+stacking rest = 3 ∷ 4 ∷ 5 ∷ 6 ∷ 7 ∷ 8 ∷ 9 ∷ rest
 
+-- for each operation the direct, the indexed and the extended column; one list where it stands at one place
 unfoldable pub accessCycles : Operation → Place → List ℕ
-accessCycles (Internal op) place = 1 ∷ []
+-- ADC ADD AND BIT CMP EOR LDA ORA SBC SUB, and STA
 accessCycles (Dyadic op acc) place = placed (1 ∷ 2 ∷ 3 ∷ []) (1 ∷ 2 ∷ 4 ∷ []) (1 ∷ 2 ∷ 3 ∷ 4 ∷ []) place
-accessCycles (Monadic op) place = placed [] (1 ∷ 2 ∷ 4 ∷ 6 ∷ []) (1 ∷ 2 ∷ 3 ∷ 4 ∷ 6 ∷ []) place
-accessCycles Tst place = placed [] (1 ∷ 2 ∷ 4 ∷ []) (1 ∷ 2 ∷ 3 ∷ 4 ∷ []) place
 accessCycles (Sta acc) place = placed (1 ∷ 2 ∷ 3 ∷ []) (1 ∷ 2 ∷ 4 ∷ []) (1 ∷ 2 ∷ 3 ∷ 4 ∷ []) place
+-- LDS LDX LDD, CPX SUBD ADDD (whose last cycle makes no access), and STS STX STD
 accessCycles (Wide op) place = placed (1 ∷ 2 ∷ 3 ∷ 4 ∷ []) (1 ∷ 2 ∷ 4 ∷ 5 ∷ []) (1 ∷ 2 ∷ 3 ∷ 4 ∷ 5 ∷ []) place
 accessCycles (WideStore op) place = placed (1 ∷ 2 ∷ 3 ∷ 4 ∷ []) (1 ∷ 2 ∷ 4 ∷ 5 ∷ []) (1 ∷ 2 ∷ 3 ∷ 4 ∷ 5 ∷ []) place
+-- ASL ASR CLR COM DEC INC LSR NEG ROL ROR, read in 4 and written in 6; TST: "R/W line of the sixth cycle is "1" level"
+accessCycles (Monadic op) place = placed [] (1 ∷ 2 ∷ 4 ∷ 6 ∷ []) (1 ∷ 2 ∷ 3 ∷ 4 ∷ 6 ∷ []) place
+accessCycles Tst place = placed [] (1 ∷ 2 ∷ 4 ∷ []) (1 ∷ 2 ∷ 3 ∷ 4 ∷ []) place
+-- JMP; JSR, which pushes in its last two cycles, and BSR
+accessCycles Jmp place = placed [] (1 ∷ 2 ∷ []) (1 ∷ 2 ∷ 3 ∷ []) place
+accessCycles Jsr place = placed (1 ∷ 2 ∷ 4 ∷ 5 ∷ []) (1 ∷ 2 ∷ 5 ∷ 6 ∷ []) (1 ∷ 2 ∷ 3 ∷ 5 ∷ 6 ∷ []) place
+accessCycles Bsr place = 1 ∷ 2 ∷ 5 ∷ 6 ∷ []
+-- the branches; what works on the registers alone
+accessCycles (Branch test) place = 1 ∷ 2 ∷ []
+accessCycles (Internal op) place = 1 ∷ []
+-- PSHA PSHB, PULA PULB, PSHX, PULX, RTS; WAI, RTI, SWI with its vector
 accessCycles (Psh acc) place = 1 ∷ 3 ∷ []
 accessCycles (Pul acc) place = 1 ∷ 4 ∷ []
 accessCycles Pshx place = 1 ∷ 3 ∷ 4 ∷ []
 accessCycles Pulx place = 1 ∷ 4 ∷ 5 ∷ []
-accessCycles (Branch test) place = 1 ∷ 2 ∷ []
-accessCycles Jmp place = placed [] (1 ∷ 2 ∷ []) (1 ∷ 2 ∷ 3 ∷ []) place
-accessCycles Jsr place = placed (1 ∷ 2 ∷ 4 ∷ 5 ∷ []) (1 ∷ 2 ∷ 5 ∷ 6 ∷ []) (1 ∷ 2 ∷ 3 ∷ 5 ∷ 6 ∷ []) place
-accessCycles Bsr place = 1 ∷ 2 ∷ 5 ∷ 6 ∷ []
 accessCycles Rts place = 1 ∷ 4 ∷ 5 ∷ []
+accessCycles Wai place = 1 ∷ stacking []
 accessCycles Rti place = 1 ∷ 4 ∷ 5 ∷ 6 ∷ 7 ∷ 8 ∷ 9 ∷ 10 ∷ []
-accessCycles Swi place = 1 ∷ pushes (11 ∷ 12 ∷ [])
-accessCycles Wai place = 1 ∷ pushes []
+accessCycles Swi place = 1 ∷ stacking (11 ∷ 12 ∷ [])
 
--- an interrupt's entry has no row: as SWI's twelve cycles, without the opcode's; out of a wait the last four of them
+-- An interrupt's entry has no row. It stacks and loads its vector in SWI's twelve cycles, and out of a wait in the last four of them.
 abbrev pub entryAccesses : Bool → List ℕ
-entryAccesses waiting = cond waiting (3 ∷ 4 ∷ []) (pushes (11 ∷ 12 ∷ []))
+entryAccesses waiting = cond waiting (3 ∷ 4 ∷ []) (stacking (11 ∷ 12 ∷ []))
