@@ -12,7 +12,6 @@ use Rattle.arithmetic.specs.Results.{movedOf, dyadicOf}
 use Rattle.ports.specs.Ports.{resetPorts}
 use Rattle.timer.specs.Timer.{ticks, resetTimer}
 use Rattle.serial.specs.Serial.{trcsOf, readSerial, writeSerial, idleLine, wantsToSend, sentOf, ticksSerial, resetSerial, serialRequest}
-use Rattle.bus.specs.declared.Bus.{Bus}
 use Rattle.bus.specs.Access.{memories, readOf, writeOf, storeOf}
 use Rattle.bus.specs.Units.{passed, resetBus}
 use Rattle.timing.specs.Table.{accessCycles}

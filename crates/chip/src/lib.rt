@@ -19,7 +19,6 @@ use tables::Vector;
 ghost use mathlib.Core.Path.{_≡_};
 ghost use mathlib.Core.List.{List};
 ghost use Prim.Native.Nat.{ℕ};
-ghost use Rattle.tables.specs.Tables.{vectorOf};
 ghost use Rattle.bus.specs.Access.{memories};
 ghost use Rattle.timing.specs.Table.{accessCycles, entryAccesses};
 ghost use Rattle.moments.specs.Moment.{begun, readAt, ended};

@@ -64,8 +64,7 @@ entered waiting =
 -- A write of $09 in cycle k of n: FFF8, and n - k + 1 cycles after it
 abbrev pub written : List Row
 written =
-    (left 0 0 (0x97 ∷ 0x09 ∷ []) is 0xFFF9 ∷ 0x00 ∷ [])  -- STAA $09: cycle 3 of 3
-    ∷ (left 7 0 (0xA7 ∷ 0x02 ∷ []) is 0xFFF9 ∷ 0x00 ∷ [])  -- STAA 2,X: 4 of 4
+    (left 7 0 (0xA7 ∷ 0x02 ∷ []) is 0xFFF9 ∷ 0x00 ∷ [])  -- STAA 2,X: 4 of 4
     ∷ (left 0 0 (0xB7 ∷ 0x00 ∷ 0x09 ∷ []) is 0xFFF9 ∷ 0x00 ∷ [])  -- STAA $0009: 4 of 4
     ∷ (left 0 0 (0xDF ∷ 0x08 ∷ []) is 0xFFF9 ∷ 0x00 ∷ [])  -- STX $08: its low byte, 4 of 4
     ∷ (left 0 0 (0x7F ∷ 0x00 ∷ 0x09 ∷ []) is 0xFFF9 ∷ 0x00 ∷ [])  -- CLR $0009: 6 of 6

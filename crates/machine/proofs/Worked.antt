@@ -1,4 +1,4 @@
--- 01's benchmarks for the definitions, all of its rows as one table, by steps, events and cycles of whole machines; and examples
+-- 01's benchmarks for the definitions, all of its rows as one table, STAA $09 as 02 replaces it, by steps, events and cycles of whole machines; and examples
 -- of entries and steps. Assumes nothing.
 use Prim.Native.Nat.{ℕ}
 use mathlib.Core.Path.{_≡_, refl}
@@ -15,7 +15,6 @@ use Rattle.ports.specs.Ports.{readPort, readPorts, resetPorts}
 use Rattle.timer.specs.Fields.{withCounter, withCompare}
 use Rattle.timer.specs.Timer.{tcsrOf, readTimer, writeTimer, ticks, resetTimer}
 use Rattle.serial.specs.Serial.{trcsOf, writeSerial, receivedByte, ticksSerial, resetSerial}
-use Rattle.bus.specs.declared.Bus.{Bus}
 use Rattle.bus.specs.Access.{Memories, memories, withTimer, readOf, writeOf, storeOf}
 use Rattle.bus.specs.Units.{passed, resetBus}
 use Rattle.timing.specs.Table.{accessCycles}

@@ -12,7 +12,6 @@ use session::Event;
 use tables::Vector;
 use timer::Timer;
 ghost use mathlib.Core.Path.{_≡_};
-ghost use mathlib.Core.List.{List};
 ghost use Prim.Native.Nat.{ℕ};
 ghost use Rattle.bus.specs.Access.{memories, readOf};
 ghost use Rattle.bus.specs.Units.{byteSent};
@@ -131,7 +130,7 @@ pub fn power_on(image: &[u8], r: u32) -> Power
     if r > 65536 {
         return Power::WrongStart;
     }
-    Power::On(cold_machine(r).reset(image))
+    Power::On(cold_machine(r).reset(image, &image[..0]))
 }
 
 fn vector_for(cause: Cause) -> Vector
@@ -204,18 +203,18 @@ impl Machine {
         self.with_bus(self.chip.bus.send())
     }
 
-    // No cycle passes, and the vector stands in the image.
-    pub fn reset(self, image: &[u8]) -> Machine
-        ensures { λ r. ⌜ ((area : List ℕ) → r ≡ resetOf (memories (now (image .entry)) area) self) ⌝ }
+    // No cycle passes, and the vector is memory.
+    pub fn reset(self, image: &[u8], area: &[u8]) -> Machine
+        ensures { λ r. ⌜ r ≡ resetOf (memories (now (image .entry)) (now (area .entry))) self ⌝ }
     {
+        let bus = self.chip.bus.reset();
         let vector = tables::address_of(Vector::Reset);
-        let pc = bits::pair(
-            bus::peek(image, vector),
-            bus::peek(image, bits::plus(vector, 1)),
-        );
+        let h = bus::held(image, area, bus.rame, vector);
+        let l = bus::held(image, area, bus.rame, bits::plus(vector, 1));
+        let registers = reset_registers(bits::pair(h, l));
         let chip = Chip {
-            registers: reset_registers(pc),
-            bus: self.chip.bus.reset(),
+            registers: registers,
+            bus: bus,
         };
         Machine {
             chip: chip,
@@ -289,7 +288,7 @@ impl Machine {
             }
             Event::Received(v, stop) => self.with_bus(self.chip.bus.receive(v, stop)),
             Event::Idle => self.with_bus(self.chip.bus.idle()),
-            Event::Reset => self.reset(image),
+            Event::Reset => self.reset(image, area),
         }
     }
 
@@ -322,6 +321,7 @@ impl Machine {
     fn opcode(self, image: &[u8], area: &[u8]) -> u8
         ensures { λ r. ⌜ r ≡ readOf (memories (now (image .entry)) (now (area .entry))) (self .chip .registers .pc) (self .chip .bus) .value ⌝ }
     {
+        // Nothing is listed, so no cycle passes.
         let f = moments::begin(self.chip.bus, 0).read(image, area, self.chip.registers.pc);
         f.value
     }

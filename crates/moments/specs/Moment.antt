@@ -19,7 +19,7 @@ moment b c ks = record { bus = b; cycle = c; ahead = ks }
 abbrev pub begun : List ℕ → Bus → Moment
 begun ks b = moment b 0 ks
 
--- the moment of the next access: the cycles before its own have passed. Where no cycle is listed, as at a reset, none passes.
+-- the moment of the next access, in cycle k: k - 1 cycles have passed, as the cycles rise. Where none is listed, as at a reset, none passes.
 unfoldable pub toNext : Bus → ℕ → List ℕ → Moment
 toNext b c [] = moment b c []
 toNext b c (k ∷ ks) = moment (passed (k - 1 - c) b) (c + (k - 1 - c)) ks

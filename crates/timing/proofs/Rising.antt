@@ -1,8 +1,9 @@
--- The cycles listed for an instruction rise, and the last is at most its cycles: one test computed over the table. Assumes nothing.
+-- The cycles of an instruction's accesses rise from 1 on, and the last is at most its cycles, for each of the 220: one test computed over the table of
+-- opcodes. So do those of an entry. Assumes nothing.
 use Prim.Native.Nat.{ℕ, _≤_}
 use native.Mathlib.Omega.{arith}
 use mathlib.Core.Path.{_≡_, subst}
-use mathlib.Core.Bool.{Bool, true, _&&_}
+use mathlib.Core.Bool.{Bool, true, false, cond, _&&_}
 use mathlib.Core.List.{List, [], _∷_}
 use lib.Dec.{T, leb, ltb, leb→le, ltb→lt}
 use Rattle.opcodes.specs.declared.Instruction.{Instruction}
@@ -10,7 +11,7 @@ use Rattle.opcodes.specs.declared.Decoded.{Decoded}
 use Rattle.opcodes.specs.declared.Decoded.the-variants.{Undefined, Defined}
 use Rattle.opcodes.specs.Opcodes.{decodeOf}
 use Rattle.opcodes.proofs.Table.{both, passes}
-use Rattle.timing.specs.Table.{accessCycles}
+use Rattle.timing.specs.Table.{accessCycles, entryAccesses}
 
 -- cycles that rise, all after `last` and none after n
 abbrev pub rises : ℕ → ℕ → List ℕ → Bool
@@ -24,6 +25,11 @@ risen (Defined i) = rises 0 (i .cycles) (accessCycles (i .operation) (i .place))
 pub rising : (opcode : ℕ) (i : Instruction) → decodeOf opcode ≡ Defined i → T (rises 0 (i .cycles) (accessCycles (i .operation) (i .place)))
 unfolding accessCycles
 rising opcode i e = subst (λ (d : Decoded). T (risen d)) e (passes risen tt tt opcode)
+
+-- an entry has 12 cycles, and 4 out of a wait
+pub entry-rising : (waiting : Bool) → T (rises 0 (cond waiting 4 12) (entryAccesses waiting))
+entry-rising true = tt
+entry-rising false = tt
 
 -- no access stands after cycle n
 abbrev pub Below : ℕ → List ℕ → Type 0

@@ -1,5 +1,7 @@
--- In which cycle of its instruction each access stands: 004's table 12 ("Cycle-by-Cycle Operation"), the accesses in their order. The opcode is
+-- In which cycle of its instruction each access stands: 004's table 12, "Cycle by Cycle Operation", the accesses in their order. The opcode is
 -- fetched in cycle 1, then come the operand's bytes, then the data. The dummy reads of table 12 are no accesses, and stand nowhere.
+-- Misprints of table 12: in direct JSR cycle 2 is "Irrelevant Data" (it is the address byte) and cycle 5 "Stack Pointer + 1" (- 1); ADDD is "ADD" beside CPX
+-- and SUBD; BGT, BVS and BRN stand in BSR's rows (they are branches of 3 cycles).
 use Prim.Native.Nat.{ℕ}
 use mathlib.Core.Bool.{Bool, cond}
 use mathlib.Core.List.{List, [], _∷_}
@@ -26,7 +28,7 @@ placed direct indexed extended Relative = 1 ∷ 2 ∷ []
 abbrev pub stacking : List ℕ → List ℕ
 stacking rest = 3 ∷ 4 ∷ 5 ∷ 6 ∷ 7 ∷ 8 ∷ 9 ∷ rest
 
--- for each operation the direct, the indexed and the extended column; one list where it stands at one place
+-- for each operation the direct, the indexed and the extended column, [] where table 12 has no such row; one list where it stands at one place
 unfoldable pub accessCycles : Operation → Place → List ℕ
 -- ADC ADD AND BIT CMP EOR LDA ORA SBC SUB, and STA
 accessCycles (Dyadic op acc) place = placed (1 ∷ 2 ∷ 3 ∷ []) (1 ∷ 2 ∷ 4 ∷ []) (1 ∷ 2 ∷ 3 ∷ 4 ∷ []) place
