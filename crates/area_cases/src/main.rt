@@ -1,4 +1,5 @@
 // The area in single and leaping runs side by side: docs/CASES.md works the expected lines from 01, 02 and its readings.
+#![tactic(auto)]
 use bits::Flag;
 use boundary::Watch;
 use cabinet::{Leapt, Ran};

@@ -1,4 +1,5 @@
 // The assembler program: LISTING BYTES. It puts the bytes of a listing's text into the file BYTES, whole or not at all, and prints one line.
+#![tactic(auto)]
 ghost use Rattle.std.specs.Prelude.{◌≡◌, length};
 
 use assembling::Assembled;

@@ -1,5 +1,6 @@
 // 01's bench program: an input on standard input, its line on standard output. One byte past the limit is read, so that a
 // longer input is known as one; one that cannot be read to its end is a bad one.
+#![tactic(auto)]
 
 // Whether the input has ended: one more read gives nothing, and does not fail.
 fn has_ended() -> bool {

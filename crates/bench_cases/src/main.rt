@@ -1,4 +1,5 @@
 // The bench program's line for each of many inputs, which stand one after the other, each after its length in two bytes.
+#![tactic(auto)]
 ghost use Rattle.std.specs.Prelude.{◌≤◌, ◌<◌, length};
 
 fn wide(b: u8) -> usize

@@ -1,6 +1,7 @@
 // The C calls: power-on, the two runs, plain and watched, the question about one opcode, the rest of a session, a listing and its bytes, over numbers and
 // lent bytes.
 // board/pliruzza.h declares them and says what each number and each byte means.
+#![tactic(auto)]
 ghost use Rattle.std.specs.Prelude.{◌≡◌, true, false};
 ghost use Rattle.boundary.specs.World.{lent, lending, terms, watching};
 ghost use Rattle.board_results.specs.Returned.{returned};

@@ -1,4 +1,5 @@
 // The places of what the C calls write, as board/pliruzza.h names them: each number is written with a byte of its own, and found again.
+#![tactic(auto)]
 use board_results::Counted;
 use counts::{Cycles, Entries, Instructions, Leaps, Records, Sent};
 use opcodes::{Accumulator, Dyadic, Instruction, Operation, Place};

@@ -1,4 +1,5 @@
 // Hexadecimal digits as characters.
+#![tactic(auto)]
 ghost use Rattle.std.specs.Prelude.{◌≡◌, ◌<◌};
 ghost use Rattle.characters.specs.Characters.{digit_of};
 

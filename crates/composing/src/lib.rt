@@ -1,1 +1,2 @@
 // Definitions and theorems alone: two runs as one.
+#![tactic(auto)]

@@ -1,5 +1,6 @@
 // Instructions that meet the registers, the edges of memory and the area: standard input has the rows, and each
 // answer says all that is not as it was before the row. docs/CASES.md explains the rows.
+#![tactic(auto)]
 ghost use Rattle.std.specs.Prelude.{◌<◌, ◌≤◌, length};
 
 use arithmetic::Codes;

@@ -1,4 +1,5 @@
 // A count each, so that one cannot be taken for another.
+#![tactic(auto)]
 #[derive(Drop)]
 pub struct Cycles(pub u32);
 

@@ -1,4 +1,5 @@
 // The lister program: IMAGE FIRST LAST. It prints the listing of a range of the image, or one refusal.
+#![tactic(auto)]
 ghost use Rattle.std.specs.Prelude.{◌≡◌, length};
 
 use listing::Listed;

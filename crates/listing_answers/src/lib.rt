@@ -1,4 +1,5 @@
 // The line that `assembler` prints.
+#![tactic(auto)]
 ghost use Rattle.std.specs.Prelude.{◌≡◌};
 ghost use Rattle.std.proofs.Math.Option.{some};
 ghost use Rattle.printing.specs.Printing.{empty_line, puts_of};

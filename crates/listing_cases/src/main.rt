@@ -1,5 +1,6 @@
 // The lister and the assembler at their edges: docs/CASES.md works the expected lines. Standard input has how many ranges and how many texts there are, two
 // bytes each, and then records, each two bytes of length and so many bytes: of a range its first and last address and code, of a text its title and itself.
+#![tactic(auto)]
 ghost use Rattle.std.specs.Prelude.{◌≡◌, length};
 
 use assembling::Assembled;

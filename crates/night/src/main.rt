@@ -1,5 +1,6 @@
 // The night program: [--area FILE] [--log FILE] [--] IMAGE SESSION N R STATE OUTPUT. It runs a night on the files, prints a line for each
 // slice and one for the night, and has night_commit put the new files in the old ones' places (docs/NIGHT.md).
+#![tactic(auto)]
 ghost use Rattle.std.specs.Prelude.{◌≡◌, length};
 ghost use Rattle.io.specs.Counts.{IsPrefixLen};
 

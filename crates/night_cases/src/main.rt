@@ -1,5 +1,6 @@
 // Refusals and stops of a night, nights with the wake log and with the area, and the edges of reading numbers and joining names.
 // docs/FORMATS.md has the numbers, docs/CASES.md works out the nights with the log and with the area.
+#![tactic(auto)]
 use boundary::Watch;
 use counts::Cycles;
 use machine::{Machine, Power};

@@ -1,4 +1,5 @@
 // What carries out a night's operations on its files: names and system calls. The order is night_steps' alone (docs/NIGHT.md).
+#![tactic(auto)]
 ghost use Rattle.std.specs.Prelude.{◌≤◌, true, [], ◌∷◌, ◌≡◌, get_or};
 ghost use Rattle.io.specs.Counts.{IsPrefixLen};
 ghost use Rattle.night_steps.specs.Steps.{waits_of};

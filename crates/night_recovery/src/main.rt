@@ -2,6 +2,7 @@
 // one name; STATE.night standing; a call that has an earlier night's names. Then a whole night, one that did not run, two that fail; recoveries of nights
 // with further files, the area and the log, and such nights. The old files hold `old` and the new ones `new`; those that a night makes here each hold a
 // word of their own. Last the names that a call may have.
+#![tactic(auto)]
 use night_steps::Op;
 use printing::Line;
 

@@ -1,4 +1,5 @@
 // A night: a long run of the leaping kind in slices, each with the rest of the session that the one before left.
+#![tactic(auto)]
 ghost use Rattle.std.specs.Prelude.{◌≡◌, ◌+◌, ◌-◌, ◌^◌, ◌<◌, ◌≤◌, min, [], length, take, ◌==◌};
 ghost use Rattle.replies.specs.Replies.{told_reply, stops};
 ghost use Rattle.boundary.specs.World.{lent, lending, watching, logged_bytes};

@@ -1,1 +1,2 @@
 // Theorems alone: a night's slices are one run.
+#![tactic(auto)]

@@ -1,4 +1,5 @@
 // A line of text: words, decimal and hexadecimal numbers put one after the other.
+#![tactic(auto)]
 ghost use Rattle.std.specs.Prelude.{◌≡◌, ◌<◌};
 ghost use Rattle.printing.specs.Printing.{empty_line, put_of, puts_of, decimal_of, hexadecimal_of};
 

@@ -1,5 +1,6 @@
 // Replays single instructions that were seen on an independent emulator, each against `Machine::look` and `Machine::step`.
 // Standard input has the cases: tools/vectors.py says how.
+#![tactic(auto)]
 ghost use Rattle.std.specs.Prelude.{◌≤◌};
 
 use arithmetic::Codes;

@@ -1,4 +1,5 @@
 // The unrun program: MAP FIRST LAST. It prints the first address of a range at which no instruction began, `none`, or one refusal.
+#![tactic(auto)]
 ghost use Rattle.std.specs.Prelude.{◌≡◌, length};
 
 use listing_arguments::Number;

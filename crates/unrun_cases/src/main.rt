@@ -1,4 +1,5 @@
 // The line of `unrun` and the lister's column at their edges: docs/CASES.md works the expected lines. Standard input is a map's file.
+#![tactic(auto)]
 use listing_marks::Marked;
 use printing::Line;
 

@@ -1,4 +1,5 @@
 // The line that `unrun` prints.
+#![tactic(auto)]
 ghost use Rattle.std.specs.Prelude.{◌≡◌};
 ghost use Rattle.printing.specs.Printing.{empty_line, puts_of};
 ghost use Rattle.execution_map.specs.Map.{told_search};

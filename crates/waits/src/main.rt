@@ -1,6 +1,7 @@
 // Whole runs, single and leaping side by side, over waits that end in every way: docs/CASES.md works the expected lines from 01.
 // With `s` or `l` and then 3, 6 or 9 on standard input, one wait that nothing ends instead, passed singly or by leaping for a
 // thousand, a million or a thousand million cycles: docs/PERFORMANCE.md measures it.
+#![tactic(auto)]
 ghost use Rattle.std.specs.Prelude.{◌≤◌};
 
 use cabinet::Ran;

@@ -1,4 +1,5 @@
 // The wake log in single and leaping runs side by side: docs/CASES.md works the expected lines from 02 and its readings.
+#![tactic(auto)]
 ghost use Rattle.io.specs.Counts.{IsPrefixLen};
 
 use bits::Flag;

@@ -1,4 +1,5 @@
 // The wakes program: LOG. It prints a line for each row of a wake log, or one refusal.
+#![tactic(auto)]
 ghost use Rattle.std.specs.Prelude.{◌≡◌, length};
 
 fn refuse(number: u8) {
