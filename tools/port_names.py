@@ -66,6 +66,16 @@ def table(names):
     return {n: m for n, m in to.items() if n != m}, together
 
 
+def borrowed(text, crates):
+    """The names that a file takes from the library."""
+    names = set()
+    for m in re.finditer(r"^\s*(?:pub |ghost )?use ([^\s{};]+)\.\{([^}]*)\}", text, re.M):
+        parts = m.group(1).split(".")
+        if parts[0] != "Rattle" or parts[1] not in crates:
+            names.update(re.split(r"[,\s]+", m.group(2)))
+    return names
+
+
 def turn(text, to, comment, made, source):
     """A text respelled. After a dot, where a name may be one that Rattle made of a function's, and in src/ only names with capitals are; in comments names with dashes
     only in backquotes."""
@@ -93,11 +103,13 @@ def main():
     if together:
         print("names that would fall together:", *together, sep="\n  ")
         raise SystemExit(1)
+    crates = set(os.listdir(os.path.join(root, "crates")))
     changed = 0
     for path in files(root, "specs/**/*.antt", "proofs/**/*.antt", "src/**/*.rt", "must-fail/*.edit"):
         old = read(path)
         inner = os.path.relpath(path, os.path.join(root, "crates")).split(os.sep)
-        new = turn(old, to, "--" if path.endswith(".antt") else "//", len(inner) > 3 and inner[1] == "proofs", path.endswith(".rt"))
+        theirs = borrowed(old, crates)
+        new = turn(old, {n: m for n, m in to.items() if n not in theirs}, "--" if path.endswith(".antt") else "//", len(inner) > 3 and inner[1] == "proofs", path.endswith(".rt"))
         if new != old:
             changed += 1
             with open(path, "w", encoding="utf-8") as f:

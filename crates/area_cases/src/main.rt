@@ -8,7 +8,7 @@ use machine::{Machine, Power};
 
 // What a case changes of the machine after power-on: SP, bits 6 and 7 of $14, R, I, waiting, a pending NMI, and whether a byte is to be sent when
 // ten cycles have passed.
-#[derive(Drop)]
+#[derive(Clone, Copy)]
 struct Start {
     sp: u16,
     rame: bool,
@@ -21,7 +21,7 @@ struct Start {
 }
 
 // How many bytes of the image, the area, the output and the log a case lends, whether the log is asked for, and N.
-#[derive(Drop)]
+#[derive(Clone, Copy)]
 struct Lends {
     image: isize,
     area: isize,

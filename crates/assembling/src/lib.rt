@@ -10,28 +10,28 @@ ghost use Rattle.assembling.specs.Assembling.{told_assembled, assemble_answer, a
 use listing_codes::{Piece, Read};
 
 // Where the next line has to be.
-#[derive(Drop)]
+#[derive(Clone, Copy)]
 pub enum Due {
     Anywhere,
     At(u32),
 }
 
 // What is wrong with a line: it is not of the published form or does not follow on; its branch target is beyond its offset.
-#[derive(Drop)]
+#[derive(Clone, Copy)]
 pub enum Fault {
     Malformed,
     TooFar,
 }
 
 // What one line does: the text is refused, or the line's bytes and characters are taken.
-#[derive(Drop)]
+#[derive(Clone, Copy)]
 pub enum Step {
     Stops(Fault),
     Takes(Piece, u8),
 }
 
 // The first bad line, counted from 1, or how many bytes a text has.
-#[derive(Drop)]
+#[derive(Clone, Copy)]
 pub enum Checked {
     Bad(Fault, usize),
     Sound(usize),
@@ -39,7 +39,7 @@ pub enum Checked {
 
 // The first line's address and how many bytes were written; or the text is empty; or its first bad line, counted from 1; or the buffer is shorter than
 // its bytes.
-#[derive(Drop)]
+#[derive(Clone, Copy)]
 pub enum Assembled {
     Wrote(u16, usize),
     Empty,

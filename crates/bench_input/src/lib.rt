@@ -6,7 +6,7 @@ ghost use Rattle.bench_input.specs.Input.{is_load, is_run, after_loads, stored_a
 use numbers::{four_at, two_at};
 
 // What an input holds: N, R and the place where its session begins; or it is bad.
-#[derive(Drop)]
+#[derive(Clone, Copy)]
 pub enum Input {
     Bad,
     Run { n: u32, r: u32, session: usize },

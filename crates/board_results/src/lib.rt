@@ -12,7 +12,7 @@ use counts::{Cycles, Entries, Instructions, Leaps, Records, Sent};
 use replies::Reply;
 
 // The counts that both runs report.
-#[derive(Drop)]
+#[derive(Clone, Copy)]
 pub struct Counted {
     pub cycles: Cycles,
     pub instructions: Instructions,

@@ -7,7 +7,7 @@ use mathlib.Core.Logic.{◌↔◌}
 use mathlib.Core.Path.{◌≡◌, refl, sym, ap, ◌∙◌}
 use lib.Dec.{eqb}
 use lib.ListN.{length}
-use borrow.Author.Tests.{lt-ltb, le-ltb, eq-eqb, ne_eqb, eqb-true, eqb-false, not_true, not-false}
+use borrow.Author.Tests.{lt-ltb, le-ltb, eq-eqb, ne_eqb, eqb-true, eqb-false, not-true, not-false}
 use Rattle.laws.proofs.Conds.{picks, passes, cases}
 use Rattle.replies.specs.Replies.{Told}
 use Rattle.machine.specs.declared.Machine.{Machine}
@@ -27,7 +27,7 @@ unfit_12 l = (
   cases (λ (k : ℕ). k ≡ 12 → WrongArea l) (not (eqb (length l.image) 65536)) (λ _ d. absurd (let z : ⊥ = omega arith in z))
       (λ e.
       cases (λ (k : ℕ). k ≡ 12 → WrongArea l) (not (eqb (length l.area) 128))
-      (λ f _. (eqb-true _ _ (not-false _ e), eqb-false _ _ (not_true _ f)))
+      (λ f _. (eqb-true _ _ (not-false _ e), eqb-false _ _ (not-true _ f)))
       (λ _ d. absurd (let z : ⊥ = omega arith in z))),
   (λ h. passes _ _ (ap not (eq-eqb _ _ h.0)) ∙ picks _ _ (ap not (ne_eqb _ _ h.1))),
 )

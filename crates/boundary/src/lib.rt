@@ -15,7 +15,7 @@ use std::num::wrapping_add_u32;
 use wake_log::Row;
 
 // A run's state: `place` is where the first unused record stands, `inside` tells that the boundary before was a waiting cycle.
-#[derive(Drop)]
+#[derive(Clone, Copy)]
 pub struct State {
     pub machine: Machine,
     pub place: usize,
@@ -29,7 +29,7 @@ pub struct State {
 }
 
 // How far the counts of a run have grown.
-#[derive(Drop)]
+#[derive(Clone, Copy)]
 pub struct Grown {
     pub cycles: Cycles,
     pub instructions: Instructions,
@@ -38,13 +38,13 @@ pub struct Grown {
 }
 
 // What is watched: with `log` each interrupt entry is logged. `since` are the cycles that had passed before the run; they are added to a row's count.
-#[derive(Drop)]
+#[derive(Clone, Copy)]
 pub struct Watch {
     pub log: bool,
     pub since: Cycles,
 }
 
-#[derive(Drop)]
+#[derive(Clone, Copy)]
 pub enum Stop {
     Limit,
     Undefined,
@@ -52,13 +52,13 @@ pub enum Stop {
     LogFull,
 }
 
-#[derive(Drop)]
+#[derive(Clone, Copy)]
 pub enum Progress {
     Going,
     Stopped(Stop),
 }
 
-#[derive(Drop)]
+#[derive(Clone, Copy)]
 pub struct Turned {
     pub state: State,
     pub progress: Progress,

@@ -2,7 +2,7 @@
 -- there are neither read nor written", and the area "follows R". R itself is kept. Assumes nothing.
 use Prim.Native.Nat.{ℕ, ◌+◌, ◌≤◌}
 use mathlib.Core.Path.{◌≡◌, refl, subst, ◌∙◌}
-use mathlib.Core.Bool.{true, false, and_false}
+use mathlib.Core.Bool.{true, false, and-false}
 use lib.ListN.{get_or}
 use borrow.Author.Tests.{le-ltb}
 use Rattle.opcodes.specs.declared.Instruction.{Instruction}
@@ -80,4 +80,4 @@ module _ (t : Terms) (w : World) where
 
   -- the area "follows R": its bytes at or above R stay
   pub area_kept : (k : ℕ) → w.state.machine.chip.bus.r ≤ 128 + k → get_or (run_of t w).world.lent.area k 0 ≡ get_or w.lent.area k 0
-  area_kept k h = kept.1.area k (rw (le-ltb (128 + k) w.state.machine.chip.bus.r h) (and_false (is_memory (register_at (128 + k)))))
+  area_kept k h = kept.1.area k (rw (le-ltb (128 + k) w.state.machine.chip.bus.r h) (and-false (is_memory (register_at (128 + k)))))

@@ -3,10 +3,10 @@ use Prim.Native.Nat.{ℕ, ◌-◌, ◌≤◌, ◌<◌}
 use native.Mathlib.Omega.{arith}
 use native.Mathlib.Decide.{dec_le}
 use mathlib.Core.Path.{◌≡◌, refl}
-use mathlib.Core.Bool.{Bool, true, false, not, and_false}
+use mathlib.Core.Bool.{Bool, true, false, not, and-false}
 use lib.Dec.{ltb, leb}
 use lib.ListN.{get_or}
-use borrow.Author.Tests.{lt-ltb, le-ltb, le-leb, lt-leb, leb-true, ltb-true, not_true}
+use borrow.Author.Tests.{lt-ltb, le-ltb, le-leb, lt-leb, leb-true, ltb-true, not-true}
 use Rattle.laws.proofs.Bools.{both}
 use Rattle.bus.specs.Access.{Memories, is_ram, in_area, held_at, writable}
 
@@ -17,12 +17,12 @@ pub no_ram : (at : ℕ) → (128 ≤ at → 256 ≤ at) → is_ram at ≡ false
 no_ram at other = by (dec_le 128 at)
   where
     by : Dec (128 ≤ at) → is_ram at ≡ false
-    by (yes h) = rw (le-ltb at 256 (other h)) (and_false (leb 128 at))
+    by (yes h) = rw (le-ltb at 256 (other h)) (and-false (leb 128 at))
     by (no h) = rw (lt-leb 128 at (omega arith))
 
 -- the area stands there: bit 6 is clear, from $80 on, below $0100
 pub area_clear : (rame : Bool) (at : ℕ) → in_area rame at ≡ true → rame ≡ false
-area_clear rame at h = not_true rame (both (not rame) (is_ram at) h).0
+area_clear rame at h = not-true rame (both (not rame) (is_ram at) h).0
 
 pub area_from : (rame : Bool) (at : ℕ) → in_area rame at ≡ true → 128 ≤ at
 area_from rame at h = leb-true 128 at (both (leb 128 at) (ltb at 256) (both (not rame) (is_ram at) h).1).0
@@ -35,7 +35,7 @@ pub set_no_area : (rame : Bool) (at : ℕ) → rame ≡ true → in_area rame at
 set_no_area rame at e = rw e
 
 pub outside_no_area : (rame : Bool) (at : ℕ) → (128 ≤ at → 256 ≤ at) → in_area rame at ≡ false
-outside_no_area rame at other = rw (no_ram at other) (and_false (not rame))
+outside_no_area rame at other = rw (no_ram at other) (and-false (not rame))
 
 -- what memory holds, by whether the area stands there
 pub held_area : (memory : Memories) (rame : Bool) (at : ℕ) → in_area rame at ≡ true → held_at memory rame at ≡ get_or memory.area (at - 128) 0

@@ -19,7 +19,7 @@ use replies::Reply;
 use session::Checked;
 
 // What both runs report.
-#[derive(Drop)]
+#[derive(Clone, Copy)]
 pub struct Ran {
     pub reply: Reply,
     pub machine: Machine,
@@ -31,20 +31,20 @@ pub struct Ran {
 }
 
 // What the leaping run reports: the same, and how many leaps there were.
-#[derive(Drop)]
+#[derive(Clone, Copy)]
 pub struct Leapt {
     pub ran: Ran,
     pub leaps: Leaps,
 }
 
-#[derive(Drop)]
+#[derive(Clone, Copy)]
 enum Admission {
     Admitted,
     Refused(Reply),
 }
 
 // How a call ends.
-#[derive(Drop)]
+#[derive(Clone, Copy)]
 struct Ending {
     reply: Reply,
     state: State,

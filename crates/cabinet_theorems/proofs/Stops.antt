@@ -6,7 +6,7 @@ use mathlib.Core.Path.{◌≡◌, refl, sym, ◌∙◌}
 use mathlib.Core.Bool.{true, false, true≢false}
 use lib.Dec.{leb}
 use lib.ListN.{length}
-use borrow.Author.Tests.{leb-true, leb-false, not_true}
+use borrow.Author.Tests.{leb-true, leb-false, not-true}
 use Rattle.turns.specs.Turn.{Turn, Then}
 use Rattle.laws.proofs.Apart.{apart}
 use Rattle.laws.proofs.Bools.{both}
@@ -97,7 +97,7 @@ module _ (asked : Terms) where
       by : (p : Pending) → pending_of w.state.machine ≡ p → EndsThen (on_pending asked.watch p w)
       by (Due cause) e =
           cases EndsThen (lacks_row asked.watch w.state w.lent.log)
-          (λ f. let b = both _ _ f in ((r.below, r.silent, (λ n. apart cc), b.0, leb-false _ _ (not_true _ b.1)), r))
+          (λ f. let b = both _ _ f in ((r.below, r.silent, (λ n. apart cc), b.0, leb-false _ _ (not-true _ b.1)), r))
           (λ _. tt)
       by Nothing e =
           cases EndsThen (idles w.state.machine.chip.registers) (λ _. tt)

@@ -23,38 +23,38 @@ use operations::{Loading, LoadingWord, Pushing, Quiet, Shape, Storing};
 use registers::Registers;
 use tables::Vector;
 
-#[derive(Drop)]
+#[derive(Clone, Copy)]
 pub struct Chip {
     pub registers: Registers,
     pub bus: Bus,
 }
 
 // The same in the middle of an instruction.
-#[derive(Drop)]
+#[derive(Clone, Copy)]
 pub struct Core {
     pub registers: Registers,
     pub bus: Clocked,
 }
 
-#[derive(Drop)]
+#[derive(Clone, Copy)]
 pub struct WordRead {
     pub value: u16,
     pub next: Clocked,
 }
 
-#[derive(Drop)]
+#[derive(Clone, Copy)]
 pub struct Located {
     pub at: u16,
     pub core: Core,
 }
 
-#[derive(Drop)]
+#[derive(Clone, Copy)]
 pub struct Popped {
     pub value: u8,
     pub core: Core,
 }
 
-#[derive(Drop)]
+#[derive(Clone, Copy)]
 pub struct PoppedWord {
     pub value: u16,
     pub core: Core,

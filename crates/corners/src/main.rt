@@ -31,7 +31,7 @@ const IMAGE: u8 = 0x00;
 
 const AREA: u8 = 0xB0;
 
-#[derive(Drop)]
+#[derive(Clone, Copy)]
 struct Ran {
     machine: Machine,
     cycles: u64,

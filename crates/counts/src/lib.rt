@@ -1,19 +1,19 @@
 // A count each, so that one cannot be taken for another.
 #![tactic(auto)]
-#[derive(Drop)]
+#[derive(Clone, Copy)]
 pub struct Cycles(pub u32);
 
-#[derive(Drop)]
+#[derive(Clone, Copy)]
 pub struct Instructions(pub u32);
 
-#[derive(Drop)]
+#[derive(Clone, Copy)]
 pub struct Entries(pub u32);
 
-#[derive(Drop)]
+#[derive(Clone, Copy)]
 pub struct Records(pub usize);
 
-#[derive(Drop)]
+#[derive(Clone, Copy)]
 pub struct Sent(pub usize);
 
-#[derive(Drop)]
+#[derive(Clone, Copy)]
 pub struct Leaps(pub u32);

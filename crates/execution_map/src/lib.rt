@@ -4,7 +4,7 @@ ghost use Rattle.std.specs.Prelude.{◌≡◌, true, ◌+◌, ◌<◌, ◌^◌, 
 ghost use Rattle.execution_map.specs.Map.{map_of, has_run, marked, begun_at, ones_of, is_sound, told_search, unrun_answer};
 
 // What the search for an address that never ran gives.
-#[derive(Drop)]
+#[derive(Clone, Copy)]
 pub enum Unrun {
     At(u16),
     Nowhere,

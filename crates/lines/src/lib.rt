@@ -12,7 +12,7 @@ use registers::Registers;
 use replies::Reply;
 
 // The counts that every line of a run tells.
-#[derive(Drop)]
+#[derive(Clone, Copy)]
 pub struct Numbers {
     pub cycles: u64,
     pub instructions: u64,

@@ -10,7 +10,7 @@ use opcodes::Decoded;
 
 // The listing was written and is so many characters long; or the image is not 65,536 bytes; or the range goes past $FFFF or backward; or the buffer is
 // shorter than the listing.
-#[derive(Drop)]
+#[derive(Clone, Copy)]
 pub enum Listed {
     Wrote(usize),
     WrongImage,

@@ -10,7 +10,7 @@ use listing_lines::Form;
 use opcodes::{Decoded, Place};
 
 // The bytes of a line, `length` of them; the others are 0.
-#[derive(Drop)]
+#[derive(Clone, Copy)]
 pub struct Piece {
     pub address: u16,
     pub length: u8,
@@ -20,7 +20,7 @@ pub struct Piece {
 }
 
 // A line read: not of the published form; a branch at an address whose target is out of its reach; or its bytes and how many characters it has.
-#[derive(Drop)]
+#[derive(Clone, Copy)]
 pub enum Read {
     Bad,
     Far(u16),

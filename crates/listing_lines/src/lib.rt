@@ -9,7 +9,7 @@ use bits::plus;
 use opcodes::{Decoded, Place};
 
 // How an operand is written: not at all, `#$12`, `#$1234`, `$12`, `$1234`, `$12,X`.
-#[derive(Drop)]
+#[derive(Clone, Copy)]
 pub enum Form {
     Bare,
     HashByte,
@@ -20,7 +20,7 @@ pub enum Form {
 }
 
 // The first `length` characters are a line, its end included.
-#[derive(Drop)]
+#[derive(Clone, Copy)]
 pub struct Text {
     pub bytes: [u8; 28],
     pub length: u8,

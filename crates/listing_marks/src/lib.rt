@@ -9,7 +9,7 @@ use opcodes::Decoded;
 
 // The listing was written and is so many characters long; or the image is not 65,536 bytes; or the range goes past $FFFF or backward; or the file is no
 // map and its own total; or the buffer is shorter than 30 characters a byte.
-#[derive(Drop)]
+#[derive(Clone, Copy)]
 pub enum Marked {
     Wrote(usize),
     WrongImage,

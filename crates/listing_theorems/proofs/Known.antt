@@ -8,7 +8,7 @@ use mathlib.Core.Bool.{Bool, true, false, cond, not, ◌&&◌}
 use mathlib.Core.List.{List}
 use lib.Dec.{eqb}
 use lib.ListN.{get_or, length}
-use borrow.Author.Tests.{eqb-true, not_true}
+use borrow.Author.Tests.{eqb-true, not-true}
 use Rattle.laws.proofs.Apart.{apart}
 use Rattle.laws.proofs.Bools.{both}
 use Rattle.tables.proofs.Rows.{from, agree}
@@ -47,7 +47,7 @@ known_at op i h e =
     let b = both (eqb (code_for (name_of i) (form_of i.place)) op) _ t in
     let c = both (not (is_data (name_of i) (form_of i.place))) _ b.1 in
     let d = both (not (eqb (get_or (name_of i) 3 0) 10)) _ c.1 in
-    record { code = eqb-true _ _ b.0; no_data = not_true _ c.0; no_end_lem = not_true _ d.0; four = eqb-true _ _ d.1 }
+    record { code = eqb-true _ _ b.0; no_data = not-true _ c.0; no_end_lem = not-true _ d.0; four = eqb-true _ _ d.1 }
 
 -- what a search finds passes its test
 abbrev Found : (ℕ → Bool) → ℕ → ℕ → Type 0

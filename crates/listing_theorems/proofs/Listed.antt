@@ -7,7 +7,7 @@ use mathlib.Core.Bool.{Bool, true, false, cond, not, ◌||◌}
 use mathlib.Core.List.{List}
 use lib.Dec.{T, leb, ltb, eqb, leb→le}
 use lib.ListN.{length}
-use borrow.Author.Tests.{lt-ltb, le-ltb, ltb-true, ltb-false, eqb-true, eqb-false, not_true, not-false}
+use borrow.Author.Tests.{lt-ltb, le-ltb, ltb-true, ltb-false, eqb-true, eqb-false, not-true, not-false}
 use Rattle.laws.proofs.Apart.{apart}
 use Rattle.laws.proofs.Conds.{cases}
 use Rattle.laws.proofs.Known.{known}
@@ -85,7 +85,7 @@ module _ (image : List ℕ) (first last : ℕ) (buffer : List ℕ) where
       → P (list_answer image first last buffer)
   unfolding list_answer
   answer_cases P p q u v =
-      cases P (not (eqb (length image) 65536)) (λ e. p (eqb-false _ _ (not_true _ e)))
+      cases P (not (eqb (length image) 65536)) (λ e. p (eqb-false _ _ (not-true _ e)))
       (λ e.
       let r = eqb-true _ _ (not-false _ e) in
       cases P (is_bad_range first last) (λ b. q r (bad first last b))

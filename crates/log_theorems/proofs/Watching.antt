@@ -8,7 +8,7 @@ use mathlib.Core.Logic.{◌↔◌, ◌⊎◌, inl, inr, ⊎_elim}
 use mathlib.Core.List.{List, [], ◌++◌, append-nil}
 use lib.ListN.{length, take}
 use lib.Seq.{take_all, take_at}
-use borrow.Author.Tests.{leb-false, not_true}
+use borrow.Author.Tests.{leb-false, not-true}
 use Rattle.turns.specs.Turn.{Turn, Then}
 use Rattle.laws.proofs.Apart.{apart}
 use Rattle.numbers.specs.Numbers.{over}
@@ -114,7 +114,7 @@ module _ (t : Terms) (m : Machine) (l : Lent) where
   refused_left e =
       let a = stop_lacks (logging true t) (start_world m l) e in
       let v = logged.world in
-      let z : length v.lent.log < 8 * v.state.entries.0 + 8 = leb-false _ _ (not_true _ a.lacks) in
+      let z : length v.lent.log < 8 * v.state.entries.0 + 8 = leb-false _ _ (not-true _ a.lacks) in
       let long = log_length (logging true t) m l refl in
       let r = log_room (logging true t) m l refl in
       record {

@@ -20,7 +20,7 @@ use tables::Vector;
 use timer::Timer;
 
 // `irq1` is the level of IRQ1, high where true; `nmi` is a pending NMI.
-#[derive(Drop)]
+#[derive(Clone, Copy)]
 pub struct Machine {
     pub chip: Chip,
     pub irq1: bool,
@@ -28,7 +28,7 @@ pub struct Machine {
 }
 
 // What power-on answers.
-#[derive(Drop)]
+#[derive(Clone, Copy)]
 pub enum Power {
     On(Machine),
     WrongImage,
@@ -36,7 +36,7 @@ pub enum Power {
 }
 
 // What an interrupt comes from, in the order of acceptance.
-#[derive(Drop)]
+#[derive(Clone, Copy)]
 pub enum Cause {
     Nmi,
     Irq1,
@@ -46,21 +46,21 @@ pub enum Cause {
     Serial,
 }
 
-#[derive(Drop)]
+#[derive(Clone, Copy)]
 pub enum Pending {
     Nothing,
     Due(Cause),
 }
 
 // What stands at PC.
-#[derive(Drop)]
+#[derive(Clone, Copy)]
 pub enum Look {
     Runs(Instruction),
     Undefined,
 }
 
 // The machine after a step or an entry, and the cycles that it took.
-#[derive(Drop)]
+#[derive(Clone, Copy)]
 pub struct Moved {
     pub machine: Machine,
     pub cycles: Cycles,

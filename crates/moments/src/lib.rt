@@ -10,7 +10,7 @@ use bus::{Bus, held};
 
 // `cycle`: how many cycles of the instruction have passed. `shown`: how many of them the units have seen; they are shown the others before an access that
 // can tell, one below $20, and at the instruction's end. `ahead`: the cycle of each access to come, a digit in base 16 each, the next one last.
-#[derive(Drop)]
+#[derive(Clone, Copy)]
 pub struct Clocked {
     pub bus: Bus,
     pub shown: u8,
@@ -18,7 +18,7 @@ pub struct Clocked {
     pub ahead: u64,
 }
 
-#[derive(Drop)]
+#[derive(Clone, Copy)]
 pub struct Seen {
     pub value: u8,
     pub next: Clocked,

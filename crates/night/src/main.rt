@@ -13,7 +13,7 @@ use night_steps::Op;
 use saved::Loaded;
 
 // What a file held: so many bytes, more than the buffer, or it is missing or cannot be read.
-#[derive(Drop)]
+#[derive(Clone, Copy)]
 enum Held {
     Bytes(usize),
     Longer,
@@ -22,7 +22,7 @@ enum Held {
 }
 
 // The two numbers of a call, and which arguments name its area and its log: 0 where none does.
-#[derive(Drop)]
+#[derive(Clone, Copy)]
 struct Terms {
     n: u32,
     r: u32,
@@ -31,7 +31,7 @@ struct Terms {
 }
 
 // What a night starts from: a machine, or the number of a refusal.
-#[derive(Drop)]
+#[derive(Clone, Copy)]
 enum Begun {
     From(Machine),
     Refused(u8),

@@ -6,7 +6,7 @@ ghost use Rattle.night_arguments.specs.Arguments.{told_number, with_digit, numbe
 ghost use Rattle.night_arguments.specs.Options.{kind_of, is_free, names_from, told, call_of};
 
 // A number below 2^32, or that there is none.
-#[derive(Drop)]
+#[derive(Clone, Copy)]
 pub enum Number {
     Is(u32),
     No,

@@ -10,7 +10,7 @@ use mathlib.Core.Path.{◌≡◌, refl, sym, ap, ◌∙◌}
 use lib.Dec.{ltb}
 use lib.ListN.{length, take, drop, get_or, length-append}
 use lib.Seq.{take-append-le, drop-append_seam}
-use borrow.Author.Tests.{not_true}
+use borrow.Author.Tests.{not-true}
 use Rattle.laws.proofs.Bools.{both, neither}
 use Rattle.printing.specs.Printing.{ascii}
 use Rattle.night_arguments.specs.Arguments.{same_of, joined_of}
@@ -89,7 +89,7 @@ module _ (state : List ℕ) (s : is_place state ≡ true) where
       let b = both _ _ a.0 in
       let c = both _ _ b.0 in
       let d = both _ _ c.0 in
-      (d.0, d.1, not_true _ c.1, not_true _ b.1, not_true _ a.1)
+      (d.0, d.1, not-true _ c.1, not-true _ b.1, not-true _ a.1)
 
   module _ (area session names : List ℕ) (a : is_area area session state names ≡ true) where
     by_kind : {P : Type 0} → (area ≡ state ++ ascii ".area" → P) → (is_further area session state names ≡ true → P) → P
@@ -117,7 +117,7 @@ module _ (image session state output : List ℕ) (n : are_names image session st
       let f = both _ _ e.0 in
       let g = both _ _ f.0 in
       let h = both _ _ g.0 in
-      (h.0, h.1, g.1, not_true _ d.1, not_true _ c.1, a.1)
+      (h.0, h.1, g.1, not-true _ d.1, not-true _ c.1, a.1)
 
   state_place : is_place state ≡ true
   state_place = names_tests.1
@@ -129,7 +129,7 @@ module _ (image session state output : List ℕ) (n : are_names image session st
       let named = (ltb 0 (length session) && not (same_of session image)) && not (same_of session output) in
       let free = not (is_of_state session state) in
       let rest = is_with session state (ascii ".rest") in
-      either free rest (both named (free || rest) names_tests.5).1 (λ w. f (not_true _ w))
+      either free rest (both named (free || rest) names_tests.5).1 (λ w. f (not-true _ w))
       (λ w. g (with_ending state state_place (ascii ".rest") (omega arith) session w))
 
   module _ (area : List ℕ) (a : is_area area session state (names_of image output 4096) ≡ true) where

@@ -20,7 +20,7 @@ use rest::Rested;
 use std::num::wrapping_add_u64;
 
 // How a slice ended: with the run's reply, or the session has fewer records than were used, or there is no room for the rest.
-#[derive(Drop)]
+#[derive(Clone, Copy)]
 pub enum SliceEnd {
     Ran(Reply),
     TooFew,
@@ -28,27 +28,27 @@ pub enum SliceEnd {
 }
 
 // The sums of the slices' counts.
-#[derive(Drop)]
+#[derive(Clone, Copy)]
 pub struct NightSlices(pub u64);
 
-#[derive(Drop)]
+#[derive(Clone, Copy)]
 pub struct NightCycles(pub u64);
 
-#[derive(Drop)]
+#[derive(Clone, Copy)]
 pub struct NightInstructions(pub u64);
 
-#[derive(Drop)]
+#[derive(Clone, Copy)]
 pub struct NightEntries(pub u64);
 
-#[derive(Drop)]
+#[derive(Clone, Copy)]
 pub struct NightRecords(pub u64);
 
-#[derive(Drop)]
+#[derive(Clone, Copy)]
 pub struct NightLeaps(pub u64);
 
 // A night between slices: `length` bytes of the session's buffer are its rest, `left` cycles are still to run, the next slice watches
 // `watch`, and the first `sent` bytes of the output and the first `logged` bytes of the log are filled.
-#[derive(Drop)]
+#[derive(Clone, Copy)]
 pub struct Night {
     pub ended: SliceEnd,
     pub machine: Machine,
@@ -66,7 +66,7 @@ pub struct Night {
 }
 
 // How a slice ended, and how many bytes the rest of its session has.
-#[derive(Drop)]
+#[derive(Clone, Copy)]
 struct Kept {
     ended: SliceEnd,
     length: usize,

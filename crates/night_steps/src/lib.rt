@@ -5,7 +5,7 @@ ghost use Rattle.std.specs.Prelude.{◌≡◌};
 ghost use Rattle.night_steps.specs.Steps.{choice, after_make, after_put, after_unlink, next_op, waits_of, is_make};
 
 // The files of a night by number: 0 image, 1 state, 2 rest, 3 output, 4 names, and from 5 on the further ones. The letters are the paragraphs of docs/NIGHT.md.
-#[derive(Drop)]
+#[derive(Clone, Copy)]
 pub enum Op {
     Find, // (a) well: STATE.done does not stand
     ReadNames, // (a) the names of the night that committed

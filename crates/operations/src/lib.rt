@@ -11,14 +11,14 @@ use opcodes::{Accumulator, Branch, Dyadic, Internal, Monadic, Operation, Place, 
 use registers::Registers;
 
 // What an operation on one byte is for.
-#[derive(Drop)]
+#[derive(Clone, Copy)]
 pub enum Target {
     In(Accumulator),
     Memory,
 }
 
 // What makes no access.
-#[derive(Drop)]
+#[derive(Clone, Copy)]
 pub enum Quiet {
     Internal(Internal),
     Monadic(Monadic, Accumulator),
@@ -28,7 +28,7 @@ pub enum Quiet {
 }
 
 // What loads a byte.
-#[derive(Drop)]
+#[derive(Clone, Copy)]
 pub enum Loading {
     Dyadic(Dyadic, Accumulator),
     Tst,
@@ -36,7 +36,7 @@ pub enum Loading {
 }
 
 // What loads a word.
-#[derive(Drop)]
+#[derive(Clone, Copy)]
 pub enum LoadingWord {
     Wide(Wide),
     Pulx,
@@ -44,21 +44,21 @@ pub enum LoadingWord {
 }
 
 // What stores a byte.
-#[derive(Drop)]
+#[derive(Clone, Copy)]
 pub enum Storing {
     Sta(Accumulator),
     Psh(Accumulator),
 }
 
 // What pushes a word. BSR is JSR at its relative place.
-#[derive(Drop)]
+#[derive(Clone, Copy)]
 pub enum Pushing {
     Pshx,
     Jsr,
 }
 
 // The accesses of an operation, with what it does around them.
-#[derive(Drop)]
+#[derive(Clone, Copy)]
 pub enum Shape {
     Nothing(Quiet),
     Load(Loading),

@@ -6,7 +6,7 @@ ghost use Rattle.printing.specs.Printing.{empty_line, put_of, puts_of, decimal_o
 use characters::digit;
 
 // The first `length` bytes are the text; the 256th begins it anew.
-#[derive(Drop)]
+#[derive(Clone, Copy)]
 pub struct Line {
     pub bytes: [u8; 256],
     pub length: u8,

@@ -9,7 +9,7 @@ use arithmetic::{Byte, Codes, Word};
 use bits::{lower, minus, pair, plus, upper};
 use opcodes::{Accumulator, Internal, Wide, WideStore};
 
-#[derive(Drop)]
+#[derive(Clone, Copy)]
 pub struct Registers {
     pub a: u8,
     pub b: u8,

@@ -30,7 +30,7 @@ const HEAD: usize = 21;
 const LONGEST: usize = 61;
 
 // What is not as it was seen. `Undefined` is an opcode that runs nothing, `Beside` the byte before or after a cell.
-#[derive(Drop)]
+#[derive(Clone, Copy)]
 enum Difference {
     Nothing,
     Undefined,
@@ -48,14 +48,14 @@ enum Difference {
 }
 
 // An address that was accessed, and what it holds before the instruction and after it.
-#[derive(Drop)]
+#[derive(Clone, Copy)]
 struct Cell {
     at: u16,
     before: u8,
     after: u8,
 }
 
-#[derive(Drop)]
+#[derive(Clone, Copy)]
 struct Tally {
     cases: u64,
     differing: u64,

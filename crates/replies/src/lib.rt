@@ -7,7 +7,7 @@ ghost use Rattle.replies.specs.Replies.{told_reply, told_fault, stops};
 use session::Fault;
 
 // 01's replies 0 to 9, in order, and 02's 11 and 12; 4 to 7 name the record, counted from 0.
-#[derive(Drop)]
+#[derive(Clone, Copy)]
 pub enum Reply {
     Limit,
     WrongImage,

@@ -6,7 +6,7 @@ use mathlib.Core.Path.{◌≡◌, refl, sym, ap, subst, ◌∙◌}
 use mathlib.Core.Bool.{Bool, true, false, cond}
 use lib.Dec.{ltb}
 use lib.ListN.{length, take, drop, length-append, length-drop, take-append-drop}
-use lib.Seq.{length-take-le, sets, drop-drop, length_sets}
+use lib.Seq.{length-take-le, sets, drop-drop, length-sets}
 use borrow.Author.Tests.{lt-ltb, le-ltb, ltb-true, ltb-false}
 use Rattle.laws.proofs.Lists.{sets_append, take_sets, drop_sets}
 use Rattle.laws.proofs.Lent.{came_back, back_whole, back_front}
@@ -107,14 +107,14 @@ module _ (s : List ℕ) (c : ℕ) where
       let x : length u ≡ 4 = length-take-le (at + 4 - at) (drop at s) (omega arith) ∙ omega arith in
       let y : length p ≡ next - (at + 8) = length-take-le (next - (at + 8)) (drop (at + 8) s) (omega arith) in
       let e₁ : b₁ ≡ sets b to u = back_front b u to (omega arith) e in
-      let l₁ : length b₁ ≡ length b = ap length e₁ ∙ length_sets b to u in
+      let l₁ : length b₁ ≡ length b = ap length e₁ ∙ length-sets b to u in
       let m = length-drop (to + 4) b₁ in
       let w : length (take (to + 8 - (to + 4)) (drop (to + 4) b₁)) ≡ 4 =
       length-take-le (to + 8 - (to + 4)) (drop (to + 4) b₁) (omega arith) ∙ omega arith in
       let v : q₂ ≡ four_bytes left = f ∙ ap (λ (j : ℕ). little_endian j left) w ∙ four_fit left fits in
       let e₂ : b₂ ≡ sets b₁ (to + 4) (four_bytes left) =
       back_whole b₁ (four_bytes left) (to + 4) (to + 8 - (to + 4)) (omega arith) (omega arith) v in
-      let l₂ : length b₂ ≡ length b₁ = ap length e₂ ∙ length_sets b₁ (to + 4) (four_bytes left) in
+      let l₂ : length b₂ ≡ length b₁ = ap length e₂ ∙ length-sets b₁ (to + 4) (four_bytes left) in
       let e₃ = back_front b₂ p (to + 8) (omega arith) g in
       record_copied at to next time left b h l n t k e₁ e₂ e₃
 
@@ -172,7 +172,7 @@ module _ (s : List ℕ) (c : ℕ) where
         record {
           ahead = sound_next s at h k.ahead;
           beyond = omega arith;
-          long = length_sets b to u ∙ k.long;
+          long = length-sets b to u ∙ k.long;
           front = k.front ∙ rest_more at (take to b) h
               ∙ ap (rest_from s c (next_at s at)) (sym (take_sets b u to r) ∙ ap (λ (j : ℕ). take j (sets b to u)) e);
           back = ap (λ (j : ℕ). drop j (sets b to u)) (sym e)

@@ -13,7 +13,7 @@ use session::{Checked, Fault};
 
 // The rest was written and is so long; or the session is bad; or it has fewer records than were used; or the buffer is
 // shorter than the rest.
-#[derive(Drop)]
+#[derive(Clone, Copy)]
 pub enum Rested {
     Written(usize),
     Bad(Fault),
@@ -22,7 +22,7 @@ pub enum Rested {
 }
 
 // Where the first unused record stands, or that there are not so many.
-#[derive(Drop)]
+#[derive(Clone, Copy)]
 enum Skipped {
     At(usize),
     Fewer,

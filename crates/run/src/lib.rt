@@ -24,7 +24,7 @@ use serial::Serial;
 use timer::Timer;
 
 // How a run ended.
-#[derive(Drop)]
+#[derive(Clone, Copy)]
 pub struct Outcome {
     pub stop: Stop,
     pub state: State,

@@ -18,14 +18,14 @@ use serial::Serial;
 use timer::{Timer, TimerRegister};
 
 // What saving answers.
-#[derive(Drop)]
+#[derive(Clone, Copy)]
 pub enum Saved {
     Done,
     WrongLength,
 }
 
 // What loading answers.
-#[derive(Drop)]
+#[derive(Clone, Copy)]
 pub enum Loaded {
     Ready(Machine),
     WrongLength,

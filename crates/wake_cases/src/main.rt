@@ -9,7 +9,7 @@ use counts::Cycles;
 use machine::{Machine, Power};
 
 // What a case changes of the machine after power-on: the causes that hold (bit k for cause k), I, waiting, SP, and whether a byte is to be sent.
-#[derive(Drop)]
+#[derive(Clone, Copy)]
 struct Start {
     causes: u8,
     masked: bool,
@@ -19,7 +19,7 @@ struct Start {
 }
 
 // What a case gives to the run: N, the log's room in bytes and the output's, what is watched.
-#[derive(Drop)]
+#[derive(Clone, Copy)]
 struct Room {
     n: u32,
     log: usize,

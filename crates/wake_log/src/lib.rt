@@ -5,7 +5,7 @@ ghost use Rattle.numbers.specs.Numbers.{over};
 ghost use Rattle.wake_log.specs.Log.{row_bytes, fits_row, with_row, row_at, is_wake, is_row};
 
 // An interrupt entry: the cycle of its boundary, the cause, and the mask of the causes behind it.
-#[derive(Drop)]
+#[derive(Clone, Copy)]
 pub struct Row {
     pub cycle: u32,
     pub cause: u8,

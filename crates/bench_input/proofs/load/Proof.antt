@@ -3,7 +3,7 @@ use native.Mathlib.Omega.{arith}
 use mathlib.Core.Path.{◌≡◌, sym, subst, ◌∙◌}
 use mathlib.Core.Bool.{true}
 use borrow.Author.Rules.{rules}
-use borrow.Author.Tests.{not_true, not-false}
+use borrow.Author.Tests.{not-true, not-false}
 use Rattle.bench_input.specs.Input.{is_run, after_loads}
 use Rattle.bench_input.proofs.Laws.{run_within, long_bad, runless_bad, run_good, loaded_bad, loaded_run}
 use Rattle.bench_input.proofs.load.Statement.{statement}
@@ -22,7 +22,7 @@ load_spec =
     (λ c. loaded_bad _ _ (long_bad _ c.if1.true))  -- returns
     (λ c κs. search rules)  -- after-loads-requires
     (λ c κs. search rules)  -- is-run-requires
-    (λ c. loaded_bad _ _ (runless_bad _ (rw (← c.before.before.after-loads.ensures.0) (sym c.before.is-run.ensures ∙ not_true _ c.if2.true))))  -- returns-2
+    (λ c. loaded_bad _ _ (runless_bad _ (rw (← c.before.before.after-loads.ensures.0) (sym c.before.is-run.ensures ∙ not-true _ c.if2.true))))  -- returns-2
     (λ c κs. search rules)  -- store-loads-requires
     (λ c κs. search rules)  -- four-at-requires
     (λ c κs. search rules)  -- four-at-requires-2

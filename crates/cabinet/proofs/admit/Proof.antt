@@ -2,7 +2,7 @@
 use borrow.Author.Rules.{rules}
 use mathlib.Core.Path.{sym, ap, ◌∙◌}
 use lib.ListN.{length}
-use borrow.Author.Tests.{not_true, not-false, eqb-true, eqb-false, ltb-true, ltb-false}
+use borrow.Author.Tests.{not-true, not-false, eqb-true, eqb-false, ltb-true, ltb-false}
 use Rattle.replies.specs.Replies.{told_check}
 use Rattle.bus.specs.Access.{memories}
 use Rattle.boundary.specs.World.{with_memories, watching}
@@ -22,7 +22,7 @@ admit-spec =
     let a = c.before.before.before.before.before.before.args in
     sym
     (refuses_12 (watching a.session.now a.n watch) a.m (with_memories l (memories a.image.now a.area.now)) c.before.if1.false
-    (eqb-false (length a.area.now) 128 (not_true _ c.if2.true))))  -- returns-2
+    (eqb-false (length a.area.now) 128 (not-true _ c.if2.true))))  -- returns-2
     (λ c watch l.
     let a = c.before.before.before.before.before.before.before.args in
     sym
@@ -31,7 +31,7 @@ admit-spec =
       eqb-true (length a.area.now) 128
           (not-false _ c.before.if2.false),
     )
-    (sym c.before.before.before.in-ranges.ensures ∙ not_true _ c.if3.true)))  -- returns-3
+    (sym c.before.before.before.in-ranges.ensures ∙ not-true _ c.if3.true)))  -- returns-3
     (λ c watch l.
     let a = c.before.before.before.before.before.before.before.before.args in
     sym

@@ -2,7 +2,7 @@
 use Prim.Native.Nat.{◌+◌, ◌-◌}
 use mathlib.Core.Path.{◌≡◌, sym, ◌∙◌}
 use borrow.Author.Rules.{rules}
-use borrow.Author.Tests.{eq-eqb, ne_eqb, not_true, not-false}
+use borrow.Author.Tests.{eq-eqb, ne_eqb, not-true, not-false}
 use Rattle.execution_map.specs.Map.{unrun_from, unrun_answer}
 use Rattle.execution_map.proofs.Search.{from_more, from_here, from_end}
 use Rattle.execution_map.proofs.first_unrun.Statement.{statement}
@@ -33,7 +33,7 @@ cast-t11 c = search rules
 returns-2 : tie.Need-returns-2 invariant-loop decreases-loop
 unfolding unrun_answer
 returns-2 c =
-    let here = from_here _ _ _ c.before.before.loop-test.true (sym c.before.has-run.ensures ∙ not_true _ c.if2.true) in
+    let here = from_here _ _ _ c.before.before.loop-test.true (sym c.before.has-run.ensures ∙ not-true _ c.if2.true) in
     rw (eq-eqb _ _ c.before.before.before.before.if1.false, c.before.before.before.loop.invariant, here)
 
 add_at : tie.Need-overflow-add-at invariant-loop decreases-loop

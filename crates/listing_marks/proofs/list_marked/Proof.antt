@@ -2,7 +2,7 @@
 use native.Mathlib.Omega.{arith}
 use mathlib.Core.Path.{sym, ◌∙◌}
 use borrow.Author.Rules.{rules}
-use borrow.Author.Tests.{not_true, not-false}
+use borrow.Author.Tests.{not-true, not-false}
 use Rattle.listing.proofs.Laws.{good_range}
 use Rattle.listing_marks.proofs.Laws.{wrong_image, wrong_range, wrong_map, no_room, wrote}
 use Rattle.listing_marks.proofs.list_marked.Statement.{statement}
@@ -22,7 +22,7 @@ list-marked-spec =
     (λ c.
     let a = c.before.before.before.before.before.before.before.args in
     wrong_map a.image.now a.first a.last a.file.now a.buffer.now c.before.before.before.if1.false c.before.before.if2.false
-    (sym c.before.is-map.ensures ∙ not_true _ c.if3.true))  -- returns-3
+    (sym c.before.is-map.ensures ∙ not-true _ c.if3.true))  -- returns-3
     (λ c.
     let a = c.before.before.before.before.before.before.before.args in
     let g = good_range a.first a.last c.before.before.if2.false in

@@ -3,7 +3,7 @@ use mathlib.Core.Path.{◌≡◌, sym, ◌∙◌}
 use lib.ListN.{length, take}
 use lib.Seq.{length-take-le}
 use borrow.Author.Rules.{rules}
-use borrow.Author.Tests.{not_true, not-false}
+use borrow.Author.Tests.{not-true, not-false}
 use Rattle.listing_reading.proofs.Says.{Said, unlike, broken, coded_so}
 use Rattle.listing_reading.proofs.read_line.Statement.{statement}
 use Rattle.listing_reading.proofs.read_line.Tie as tie
@@ -43,12 +43,12 @@ read-line-spec =
     let l : length d.result.bytes ≡ 28 = search rules in
     sym (length-take-le d.result.length d.result.bytes (rw l d.ensures.2)))  -- slice-aggregate-begins-with
     (λ c κs. search rules)  -- begins-with-requires
-    (λ c. unlike (said c.before.before.before.before) (sym (not_true _ c.if1.true) ∙ c.before.begins-with.ensures))  -- returns
+    (λ c. unlike (said c.before.before.before.before) (sym (not-true _ c.if1.true) ∙ c.before.begins-with.ensures))  -- returns
     (λ c κs. search rules)  -- is-unbroken-requires
     (λ c.
     let d = c.before.before in
     let begins = sym (not-false _ d.if1.false) ∙ d.before.begins-with.ensures in
-    broken (said d.before.before.before.before) begins (sym (not_true _ c.if2.true) ∙ c.before.is-unbroken.ensures))  -- returns-2
+    broken (said d.before.before.before.before) begins (sym (not-true _ c.if2.true) ∙ c.before.is-unbroken.ensures))  -- returns-2
     (λ c κs. search rules)  -- coded-requires
     (λ c.
     let d = c.before.before.before in

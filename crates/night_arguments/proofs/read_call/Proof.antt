@@ -5,7 +5,7 @@ use mathlib.Core.List.{List}
 use mathlib.Core.Path.{◌≡◌, refl, sym, ap, ◌∙◌}
 use lib.ListN.{length, drop}
 use borrow.Author.Rules.{rules}
-use borrow.Author.Tests.{not_true, not-false}
+use borrow.Author.Tests.{not-true, not-false}
 use Rattle.laws.proofs.Conds.{picks, passes}
 use Rattle.night_arguments.specs.Options.{told, call_from, call_of}
 use Rattle.night_arguments.proofs.Calls.{call_names, call_ended, call_no, call_on, call_end, too_many, call_start}
@@ -37,7 +37,7 @@ returns-4 c =
     let d = c.before.before.before.before.before in
     let l = d.before.before.before.before.loop in
     let k = d.before.before.before.before.before.before.before.before.args.kinds.now in
-    let e = sym c.before.before.before.give.ensures.0 ∙ not_true _ c.if4.true in
+    let e = sym c.before.before.before.give.ensures.0 ∙ not-true _ c.if4.true in
     l.invariant.3 ∙ call_no k l.values (length k) l.i d.before.before.before.loop-test.true d.before.if2.false d.if3.false e
     ∙ ap (told 0) (sym (c.before.before.before.give.ensures.1 ∙ passes _ _ e))
 

@@ -1,7 +1,7 @@
 -- `night_commit::carry` ends, as less is ahead after each operation, and ends at one that waits. Assumes nothing.
 use mathlib.Core.Path.{sym, ◌∙◌}
 use borrow.Author.Rules.{rules}
-use borrow.Author.Tests.{not_true, not-false}
+use borrow.Author.Tests.{not-true, not-false}
 use Rattle.night_steps.proofs.Ahead.{ahead, falls}
 use Rattle.night_commit.proofs.carry.Statement.{statement}
 use Rattle.night_commit.proofs.carry.Tie as tie
@@ -16,7 +16,7 @@ loop-less : tie.Need-loop-smaller invariant-loop decreases-loop
 loop-less c =
     let d = c.before.before.before.before in
     rw c.next.ensures (falls d.before.files.result d.loop.op c.before.carry-out.result d.before.before.before.before.args.own_val
-    (sym c.before.before.before.waits.ensures ∙ not_true _ c.before.before.if1.true))
+    (sym c.before.before.before.waits.ensures ∙ not-true _ c.before.before.if1.true))
 
 returns : tie.Need-returns invariant-loop decreases-loop
 returns c = sym c.before.waits.ensures ∙ not-false _ c.if1.false

@@ -1,6 +1,6 @@
 -- `night_slices::keep` meets its contract: the session, or its rest where crate rest wrote one. Assumes nothing.
 use Rattle.std.proofs.Common.{◌≡◌, ℕ, ◌≤◌, true, List, length, take, sym, ap, ◌∙◌, arith, length-take-le, rules}
-use borrow.Author.Tests.{not_true, not-false}
+use borrow.Author.Tests.{not-true, not-false}
 use Rattle.replies.specs.Replies.{Told, told_reply, stops}
 use Rattle.rest.specs.Rest.{rest_of}
 use Rattle.rest.specs.Answers.{RestReply, rest_wrote, told_rest, rest_answer}
@@ -55,7 +55,7 @@ keep_spec =
     (λ c.
     let a = c.before.before.before.before.args in (
       keeps_refused (take a.size a.session.now) a.used.0 a.cycles.0 (told_reply a.reply)
-          (sym c.before.is_stop.ensures ∙ not_true _ c.if1.true),
+          (sym c.before.is_stop.ensures ∙ not-true _ c.if1.true),
       omega arith,
     ))  -- returns
     (λ c. search rules)  -- slice-reshare-prefix-rest

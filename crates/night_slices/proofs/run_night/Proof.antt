@@ -1,6 +1,6 @@
 -- `night_slices::run_night` meets its contract: the slices, one after another. Assumes nothing.
 use Rattle.std.proofs.Common.{◌≡◌, ◌<◌, ◌≤◌, Bool, length, sym, refl, ap, ◌∙◌, subst, arith, rules}
-use borrow.Author.Tests.{not_true, not-false}
+use borrow.Author.Tests.{not-true, not-false}
 use Rattle.boundary.specs.World.{lending}
 use Rattle.night_slices.specs.declared.Night.{Night}
 use Rattle.night_slices.specs.Slices.{Standing, standing, slice_of, slices_of, goes_on}
@@ -90,7 +90,7 @@ returns-2 c =
     let a = l.before.before.before.before.before.before.before.before.before.before.args in
     let given = lending a.image.now a.area.now a.output.now a.log.now in
     s.slice.ensures.0
-    ∙ sym (slices_done (began c.before) (goes c.before (not_true _ c.if2.true)))
+    ∙ sym (slices_done (began c.before) (goes c.before (not-true _ c.if2.true)))
     ∙ sym l.loop.inv.0
     ∙ ap (λ (n : Night). slices_of (standing n given a.session.now)) l.before.start2.ensures
     ∙ night_runs a.session.now a.size a.n a.watch a.m given (length a.spare.now) l.before.before.before.least.ensures l.before.before.if1.left

@@ -3,7 +3,7 @@ use Rattle.run.proofs.Waiting.{waits, leapt, limit_ends, within_types}
 use mathlib.Core.Path.{refl, sym, ◌∙◌}
 use Rattle.boundary.specs.World.{watching}
 use native.Mathlib.Omega.{arith}
-use borrow.Author.Tests.{not_true, not-false}
+use borrow.Author.Tests.{not-true, not-false}
 use mathlib.Core.Bool.{true≢false}
 use Rattle.run.proofs.leap.Statement.{statement}
 use Rattle.run.proofs.leap.Tie as tie
@@ -15,7 +15,7 @@ leap-spec =
     (λ c κs. search rules)  -- idles-requires
     (λ c.
     let s = c.before.before.before.before.args.s in
-    let out = waits s c.before.before.idles.ensures (not_true _ c.if1.true) in
+    let out = waits s c.before.before.idles.ensures (not-true _ c.if1.true) in
     λ watch. (c.before.before.before.before.requires.0, omega arith, λ e. absurd (true≢false (sym e ∙ out)), λ l. refl))  -- returns
     (λ c.
     let a = c.before.before.before.before.before.before.args in

@@ -6,7 +6,7 @@ use mathlib.Core.List.{List}
 use mathlib.Core.Path.{◌≡◌, sym, ap, ◌∙◌}
 use mathlib.Core.Logic.{◌⊎◌, inl, inr}
 use native.Mathlib.Nat.{eq-or-lt_of_le}
-use borrow.Author.Tests.{not_true, not-false}
+use borrow.Author.Tests.{not-true, not-false}
 use Rattle.wake_log.specs.Log.{is_row}
 use borrow.Author.Rules.{rules}
 use Rattle.wakes_lines.proofs.first_bad.Statement.{statement}
@@ -34,7 +34,7 @@ first-bad-spec =
     decreases-loop
     (λ c. (omega arith, λ j h. absurd (let z : ⊥ = omega (arith, h) in z)))  -- loop-holds
     (λ c κs. tt)  -- is-row-requires
-    (λ c. (c.before.before.before.loop.invariant.0, c.before.before.before.loop.invariant.1, λ h. sym c.before.is_row.ensures ∙ not_true _ c.if1.true))  -- returns
+    (λ c. (c.before.before.before.loop.invariant.0, c.before.before.before.loop.invariant.1, λ h. sym c.before.is_row.ensures ∙ not-true _ c.if1.true))  -- returns
     (λ c. search rules)  -- add-k
     (λ c. search rules)  -- loop-less
     (λ c.

@@ -1,6 +1,6 @@
 -- `State::lacks_row` meets its contract: in each of its four ways. Assumes nothing.
 use Rattle.std.proofs.Common.{sym, ◌∙◌, rules}
-use borrow.Author.Tests.{not_true, not-false}
+use borrow.Author.Tests.{not-true, not-false}
 use Rattle.boundary.proofs.Cases.{lacks_unasked, lacks_fitting, lacks_nothing, lacks_due}
 use Rattle.boundary.proofs.State.lacks_row.Statement.{statement}
 use Rattle.boundary.proofs.State.lacks_row.Tie as tie
@@ -9,7 +9,7 @@ pub lacks-row-spec : {M : Type 1} → statement M
 lacks-row-spec =
     tie.close
     (tie.spec
-    (λ c. let a = c.before.before.args in lacks_unasked a.logs a.self a.log.now (not_true _ c.if1.true))  -- returns
+    (λ c. let a = c.before.before.args in lacks_unasked a.logs a.self a.log.now (not-true _ c.if1.true))  -- returns
     (λ c κs. search rules)  -- fits-row-requires
     (λ c. let a = c.before.before.before.before.args in lacks_fitting a.logs a.self a.log.now (sym c.before.fits-row.ensures ∙ c.if2.true))  -- returns-2
     (λ c κs. search rules)  -- pending-requires
