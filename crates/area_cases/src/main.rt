@@ -53,7 +53,7 @@ const STRAIGHT: [u8; 23] =
 fn install(memory: &mut [u8], at: usize, code: &[u8]) {
     if at <= memory.len() {
         if code.len() <= memory.len() - at {
-            bytes::copy(code, &mut memory[at..]);
+            numbers::copy(code, &mut memory[at..]);
         }
     }
 }

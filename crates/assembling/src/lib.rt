@@ -110,7 +110,7 @@ fn put(p: Piece, at: usize, buffer: &mut [u8])
 {
     let bytes = [p.first, p.second, p.third];
     let n = p.length as usize;
-    bytes::copy(&bytes[..n], &mut buffer[at..]);
+    numbers::copy(&bytes[..n], &mut buffer[at..]);
 }
 
 // The second pass, over a text without a bad line.

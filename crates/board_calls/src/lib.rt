@@ -40,7 +40,7 @@ pub fn ask(opcode: u8, answer: &mut [u8]) -> u32
         Decoded::Undefined => 8,
         Decoded::Defined(i) => {
             let six = board_numbers::instruction_bytes(i);
-            bytes::copy(&six, answer);
+            numbers::copy(&six, answer);
             0
         }
     }

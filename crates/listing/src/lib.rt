@@ -97,7 +97,7 @@ pub fn put(bytes: [u8; 28], n: usize, at: usize, buffer: &mut [u8])
     requires { (n ≤ 28) × (at + n ≤ length buffer.old) }
     ensures { buffer.new ≡ sets buffer.old at (take n bytes) }
 {
-    bytes::copy(&bytes[..n], &mut buffer[at..]);
+    numbers::copy(&bytes[..n], &mut buffer[at..]);
 }
 
 // The listing is put at the buffer's front.

@@ -144,7 +144,7 @@ fn attempt(title: &[u8], text: &[u8]) {
 fn install(image: &mut [u8], at: usize, code: &[u8]) {
     if at <= image.len() {
         if code.len() <= image.len() - at {
-            bytes::copy(code, &mut image[at..]);
+            numbers::copy(code, &mut image[at..]);
         }
     }
 }

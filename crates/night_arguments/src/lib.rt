@@ -164,7 +164,7 @@ pub fn joined(name: &[u8], ending: &[u8], buffer: &mut [u8]) -> usize
     if buffer.len() - name.len() < ending.len() {
         return 0;
     }
-    bytes::copy(name, buffer);
-    bytes::copy(ending, &mut buffer[name.len()..]);
+    numbers::copy(name, buffer);
+    numbers::copy(ending, &mut buffer[name.len()..]);
     name.len() + ending.len()
 }

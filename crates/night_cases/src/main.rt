@@ -58,7 +58,7 @@ fn show_night(image: &mut [u8], session: &mut [u8], output: &mut [u8], spare: &m
 fn install(image: &mut [u8], at: usize, code: &[u8]) {
     if at <= image.len() {
         if code.len() <= image.len() - at {
-            bytes::copy(code, &mut image[at..]);
+            numbers::copy(code, &mut image[at..]);
         }
     }
 }

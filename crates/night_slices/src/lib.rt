@@ -139,7 +139,7 @@ fn keep(
     let rested = rest::rest(&session[..size], used, cycles, spare);
     match rested {
         Rested::Written(n) => {
-            bytes::copy(&spare[..n], session);
+            numbers::copy(&spare[..n], session);
             Kept {
                 ended: SliceEnd::Ran(reply),
                 length: n,

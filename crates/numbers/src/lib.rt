@@ -1,6 +1,6 @@
 // Numbers in bytes, little-endian: read at a place of some bytes, and written over a lent part.
 #![tactic(auto)]
-ghost use Rattle.std.specs.Prelude.{◌≡◌, ◌≤◌, length};
+ghost use Rattle.std.specs.Prelude.{◌≡◌, ◌≤◌, ◌++◌, drop, length};
 ghost use Rattle.numbers.specs.Numbers.{byte_at, two, four, little_endian};
 
 // Byte k after a place, 0 past the end.
@@ -43,4 +43,12 @@ pub fn put(part: &mut [u8], number: u64)
         rest = rest / 256;
         i = i + 1;
     }
+}
+
+// Bytes over the front of a lent part.
+pub fn copy(from: &[u8], to: &mut [u8])
+    requires { length from.now ≤ length to.old }
+    ensures { to.new ≡ from.now ++ drop (length from.now) to.old }
+{
+    to[..from.len()].copy_from_slice(from);
 }

@@ -47,9 +47,9 @@ fn copy_record(session: &[u8], at: usize, cycles: Cycles, to: usize, buffer: &mu
 {
     let next = session::next_at(session, at);
     let left = time_left(session::time_at(session, at), cycles);
-    bytes::copy(&session[at..at + 4], &mut buffer[to..]);
+    numbers::copy(&session[at..at + 4], &mut buffer[to..]);
     numbers::put(&mut buffer[to + 4..to + 8], left as u64);
-    bytes::copy(&session[at + 8..next], &mut buffer[to + 8..]);
+    numbers::copy(&session[at + 8..next], &mut buffer[to + 8..]);
 }
 
 // The records from a place on are stored at the buffer's front, their times less the cycles.

@@ -93,7 +93,7 @@ fn list(title: &[u8], image: &[u8], first: u32, last: u32, file: &[u8]) {
 fn install(image: &mut [u8], at: usize, code: &[u8]) {
     if at <= image.len() {
         if code.len() <= image.len() - at {
-            bytes::copy(code, &mut image[at..]);
+            numbers::copy(code, &mut image[at..]);
         }
     }
 }

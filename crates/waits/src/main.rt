@@ -15,7 +15,7 @@ const HANDLER: usize = 0x0200;
 fn install(image: &mut [u8], at: usize, code: &[u8]) {
     if at <= image.len() {
         if code.len() <= image.len() - at {
-            bytes::copy(code, &mut image[at..]);
+            numbers::copy(code, &mut image[at..]);
         }
     }
 }
