@@ -1,0 +1,8 @@
+use Rattle.std.proofs.Common.{arith, rules}
+use mathlib.Core.Bool.{xor}
+use Rattle.arithmetic.proofs.Small.{small, counts}
+use Rattle.arithmetic.proofs.add_with.Goals as goal
+
+pub returns : goal.returns
+unfolding xor
+returns c = rw (← counts c.args.carry) c.byte_after.ensures

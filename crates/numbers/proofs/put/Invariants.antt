@@ -1,0 +1,16 @@
+-- `numbers::put` meets its contract: each turn puts one byte more. Assumes nothing.
+use borrow.Author.Rules.{rules}
+use Prim.Native.Nat.{◌≤◌, ◌-◌, ◌%◌}
+use native.Mathlib.Omega.{arith}
+use mathlib.Core.Path.{◌≡◌, refl, sym, ap, ◌∙◌}
+use mathlib.Core.List.{◌++◌}
+use lib.ListN.{length, take, length-set}
+use Rattle.numbers.specs.Numbers.{little_endian}
+use Rattle.numbers.proofs.Laws.{bytes_none, bytes_more, bytes_all}
+use Rattle.numbers.proofs.put.Given as goal
+
+abbrev pub invariant-loop-i : goal.invariant-loop-i
+invariant-loop-i l = (l.i ≤ length l.part) × (length l.part ≡ length l.initial.part) × (little_endian (length l.initial.part) l.number ≡ take l.i l.part ++ little_endian (length l.initial.part - l.i) l.rest)
+
+abbrev pub decreases-loop-i : goal.decreases-loop-i
+decreases-loop-i l = length l.initial.part - l.i
