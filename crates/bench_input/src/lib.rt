@@ -1,5 +1,6 @@
 // The bench program's input: load records, one run record, and the session after it.
 #![tactic(auto)]
+
 ghost use Rattle.std.specs.Prelude.{◌≡◌, ◌≤◌, length, set};
 ghost use Rattle.bench_input.specs.Input.{is_load, is_run, after_loads, stored_at, loads_of, input_of, image_of};
 

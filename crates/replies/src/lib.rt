@@ -1,5 +1,6 @@
 // The replies to a run: each with its number, the record that it names, and whether the run stopped or was refused.
 #![tactic(auto)]
+
 ghost use Rattle.std.specs.Prelude.{◌≡◌};
 ghost use Rattle.std.proofs.Math.Option.{get_or};
 ghost use Rattle.replies.specs.Replies.{told_reply, told_fault, stops};

@@ -6,12 +6,12 @@ use mathlib.Core.Path.{◌≡◌, refl, sym, ap, subst, ◌∙◌}
 use mathlib.Core.Bool.{Bool, true, false, cond}
 use lib.Dec.{ltb}
 use lib.ListN.{length, take, drop, length-append, length-drop, take-append-drop}
-use lib.Seq.{length-take-le, sets, drop-drop, length-sets}
+use lib.Seq.{length-take-le, take_all, sets, drop-drop, length-sets}
 use borrow.Author.Tests.{lt-ltb, le-ltb, ltb-true, ltb-false}
 use Rattle.laws.proofs.Lists.{sets_append, take_sets, drop_sets}
 use Rattle.laws.proofs.Lent.{came_back, back_whole, back_front}
 use Rattle.numbers.specs.Numbers.{little_endian, four_bytes}
-use Rattle.numbers.proofs.Laws.{length_little_endian, four_fit}
+use Rattle.numbers.proofs.Laws.{four_fit}
 use Rattle.turns.specs.Turn.{Turn, more, done}
 use Rattle.turns.proofs.Laws.{loop_more, loop_done}
 use Rattle.session.specs.Session.{time_at, next_at}
@@ -86,7 +86,7 @@ module _ (s : List ℕ) (c : ℕ) where
 
   -- bytes copied to the front of a part, and the record's three parts each in a part of the buffer
   abbrev copied : List ℕ → List ℕ → List ℕ
-  copied u l = take (length u) u ++ drop (length u) l
+  copied u l = u ++ drop (length u) l
 
   pub record_stored : (at to next time left : ℕ) (b : List ℕ) {q₁ q₂ q₃ : List ℕ} → at + 8 ≤ next_at s at → next_at s at ≤ length s
       → to + (next_at s at - at) ≤ length b
@@ -106,7 +106,7 @@ module _ (s : List ℕ) (c : ℕ) where
       let d' = length-drop (at + 8) s in
       let x : length u ≡ 4 = length-take-le (at + 4 - at) (drop at s) (omega arith) ∙ omega arith in
       let y : length p ≡ next - (at + 8) = length-take-le (next - (at + 8)) (drop (at + 8) s) (omega arith) in
-      let e₁ : b₁ ≡ sets b to u = back_front b u to (omega arith) e in
+      let e₁ : b₁ ≡ sets b to u = back_front b u to (omega arith) (rw (take_all (length u) u (omega arith)) e) in
       let l₁ : length b₁ ≡ length b = ap length e₁ ∙ length-sets b to u in
       let m = length-drop (to + 4) b₁ in
       let w : length (take (to + 8 - (to + 4)) (drop (to + 4) b₁)) ≡ 4 =
@@ -115,7 +115,7 @@ module _ (s : List ℕ) (c : ℕ) where
       let e₂ : b₂ ≡ sets b₁ (to + 4) (four_bytes left) =
       back_whole b₁ (four_bytes left) (to + 4) (to + 8 - (to + 4)) (omega arith) (omega arith) v in
       let l₂ : length b₂ ≡ length b₁ = ap length e₂ ∙ length-sets b₁ (to + 4) (four_bytes left) in
-      let e₃ = back_front b₂ p (to + 8) (omega arith) g in
+      let e₃ = back_front b₂ p (to + 8) (omega arith) (rw (take_all (length p) p (omega arith)) g) in
       record_copied at to next time left b h l n t k e₁ e₂ e₃
 
   -- and so the rest is as long as what is left of the session

@@ -41,7 +41,8 @@ two = take 17 session
 abbrev ones : ℕ → List ℕ
 ones n = replicate n 1
 
-answers : rest_answer two 1 5 (ones 11) ∷ rest_answer two 1 5 (ones 8) ∷ rest_answer two 3 5 (ones 11) ∷ rest_answer (take 16 session) 1 5 (ones 11) ∷ []
+answers : rest_answer two 1 5 (ones 11) ∷ rest_answer two 1 5 (ones 8) ∷ rest_answer two 3 5 (ones 11)
+        ∷ rest_answer (take 16 session) 1 5 (ones 11) ∷ []
     ≡ rest_wrote 9 ∷ refuses (told 31 none) ∷ refuses (told 30 none) ∷ refuses (told 4 (some 1)) ∷ []
 unfolding rest_answer rest_refusal has_fewer rest_of rest_from place_of shifted_at length_at kind_at time_at payload_at next_at length_for fits cut_short first_fault fault_at check_turn check_from loop_of turns
 answers = refl

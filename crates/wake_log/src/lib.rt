@@ -1,5 +1,6 @@
 // The wake log's rows, 8 bytes each, in a buffer that the caller lends.
 #![tactic(auto)]
+
 ghost use Rattle.std.specs.Prelude.{◌≡◌, true, ◌≤◌, length};
 ghost use Rattle.numbers.specs.Numbers.{over};
 ghost use Rattle.wake_log.specs.Log.{row_bytes, fits_row, with_row, row_at, is_wake, is_row};

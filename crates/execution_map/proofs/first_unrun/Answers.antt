@@ -14,13 +14,13 @@ returns-then-map-ne8192 c = rw (ne_eqb _ _ c.if-map-ne8192.true)
 pub returns-then-not-has_run : goal.returns-then-not-has_run
 unfolding unrun_answer
 returns-then-not-has_run c =
-    let here = from_here _ _ _ c.loop-at-test.true (sym c.has_run.ensures ∙ not-true _ c.if-not-has_run.true) in
+    let here = from_here _ _ _ c.loop-at-test.true (sym c.has_run.ensures ∙ c.if-not-has_run.true) in
     rw (eq-eqb _ _ c.if-map-ne8192.false, c.loop-at.invariant, here)
 
 pub loop-at-preserved : goal.loop-at-preserved
 loop-at-preserved c =
     c.loop-at.invariant
-    ∙ from_more _ _ _ c.loop-at-test.true (sym c.has_run.ensures ∙ not-false _ c.if-not-has_run.false)
+    ∙ from_more _ _ _ c.loop-at-test.true (sym c.has_run.ensures ∙ c.if-not-has_run.false)
 
 pub returns : goal.returns
 unfolding unrun_answer

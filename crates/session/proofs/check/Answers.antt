@@ -1,8 +1,7 @@
 -- `session::check` meets its contract: each turn of its loop is a turn of the definition's. Assumes nothing.
-use borrow.Author.Rules.{rules}
-use Prim.Native.Nat.{ℕ, ◌+◌, ◌-◌, ◌≤◌, ◌<◌}
+use Prim.Native.Nat.{ℕ, ◌+◌, ◌≤◌, ◌<◌}
 use native.Mathlib.Omega.{arith}
-use mathlib.Core.Path.{◌≡◌, refl, sym, subst, ◌∙◌}
+use mathlib.Core.Path.{◌≡◌, sym, subst, ◌∙◌}
 use mathlib.Core.List.{List}
 use lib.ListN.{length}
 use Rattle.session.specs.Session.{time_at, next_at, fault_at, check_from, check_of}
@@ -10,6 +9,7 @@ use Rattle.session.specs.declared.Fault.{Fault}
 use Rattle.session.specs.declared.Checked.TheVariants.{Sound, Bad}
 use Rattle.session.proofs.Laws.{Refusal, next_within, fault_told, check_past, check_stops, check_ends}
 use Rattle.session.proofs.check.Goals as goal
+use Rattle.session.proofs.check.Goals.{After-next_at-at}
 
 -- what a turn past a record without fault comes to
 abbrev Passed : List ℕ → ℕ → ℕ → ℕ → ℕ → Type 0
@@ -21,14 +21,14 @@ pass s number before at time next h l e f t n =
     let w = next_within s at h (fault_told s number before at Sound f).0 in
     (omega arith, omega arith, omega arith, rw (t, n) (e ∙ check_past s number before at h f))
 
-passed : (c : goal.After-next_at-at) → let l = c.loop-at in
+passed : (c : After-next_at-at) → let l = c.loop-at in
     let s = c.args.session.now in
     Passed s l.number l.at c.time_at-before.result c.next_at-at.result
 passed c =
     let l = c.loop-at in
     let f = sym c.fault_at-fault.ensures ∙ c.in-Sound.is in
     let s = c.args.session.now in
-    pass s l.number l l.at _ _ c.loop-at-test.true l.invariant.0 l.invariant.2
+    pass s l.number l.before l.at _ _ c.loop-at-test.true l.invariant.0 l.invariant.2
     f c.time_at-before.ensures c.next_at-at.ensures
 
 -- a record's fault is the whole session's
@@ -37,15 +37,15 @@ stops : (s : List ℕ) (number before at : ℕ) (f : Fault) → at < length s �
 stops s number before at f h e g = sym (e ∙ check_stops s number before at h (subst Refusal (sym g) tt) ∙ g)
 
 pub loop-at-smaller : goal.loop-at-smaller
-loop-at-smaller c = let p = passed c in omega arith
+loop-at-smaller c = let p = passed (goal.at.loop-at-smaller c).After-next_at-at in omega arith
 
 pub loop-at-preserved : goal.loop-at-preserved
-loop-at-preserved c = let p = passed c in (p.1, p.2, p.3)
+loop-at-preserved c = let p = passed (goal.at.loop-at-preserved c).After-next_at-at in (p.1, p.2, p.3)
 
 pub returns-in-Bad : goal.returns-in-Bad
 returns-in-Bad c = let l = c.loop-at in
     let f = sym c.fault_at-fault.ensures ∙ c.in-Bad.is in
-    stops _ l.number l l.at _ c.loop-at-test.true l.invariant.2 f
+    stops _ l.number l.before l.at _ c.loop-at-test.true l.invariant.2 f
 
 pub returns : goal.returns
 returns c = sym (c.loop-at.invariant.2 ∙ check_ends _ _ _ _ c.loop-at-test.false)

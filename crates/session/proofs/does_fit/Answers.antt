@@ -1,5 +1,4 @@
 -- `session::does_fit` meets its contract: code and definition are one text. Assumes nothing.
-use borrow.Author.Rules.{rules}
 use mathlib.Core.Path.{refl}
 use Rattle.session.specs.Session.{fits}
 use Rattle.session.proofs.does_fit.Goals as goal

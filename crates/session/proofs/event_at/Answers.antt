@@ -1,6 +1,6 @@
 -- `session::event_at` meets its contract: each arm is a case of the definition's. Assumes nothing.
-use borrow.Author.Rules.{rules}
 use borrow.Author.Tests.{ne_eqb}
+use Rattle.std.proofs.Common.{◌≢◌, arith}
 use Rattle.session.specs.Session.{event_of, kind_at, payload_at}
 use Rattle.session.proofs.event_at.Goals as goal
 
@@ -30,13 +30,11 @@ returns-in-6 c = rw (← c.two_at.ensures, c.in-6.is)
 
 pub returns-in_default : goal.returns-in_default
 unfolding event_of kind_at payload_at
-returns-in_default c = let r = c.in-1.rest in
-    rw (
-      ← c.two_at.ensures,
-      ne_eqb _ _ r.0.0.0.0.0.1,
-      ne_eqb _ _ r.0.0.0.0.1,
-      ne_eqb _ _ r.0.0.0.1,
-      ne_eqb _ _ r.0.0.1,
-      ne_eqb _ _ r.0.1,
-      ne_eqb _ _ r.1,
-    )
+returns-in_default c =
+    let k1 : c.two_at.result ≢ 1 = omega arith in
+    let k2 : c.two_at.result ≢ 2 = omega arith in
+    let k3 : c.two_at.result ≢ 3 = omega arith in
+    let k4 : c.two_at.result ≢ 4 = omega arith in
+    let k5 : c.two_at.result ≢ 5 = omega arith in
+    let k6 : c.two_at.result ≢ 6 = omega arith in
+    rw (← c.two_at.ensures, ne_eqb _ _ k1, ne_eqb _ _ k2, ne_eqb _ _ k3, ne_eqb _ _ k4, ne_eqb _ _ k5, ne_eqb _ _ k6)

@@ -1,5 +1,4 @@
 -- `session::first_fault` meets its contract: each `return` is a case of the definition's. Assumes nothing.
-use borrow.Author.Rules.{rules}
 use Rattle.session.specs.Session.{first_fault}
 use Rattle.session.proofs.first_fault.Goals as goal
 

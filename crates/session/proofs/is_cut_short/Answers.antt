@@ -1,5 +1,4 @@
 -- `session::is_cut_short` meets its contract: the tests in the same order. Assumes nothing.
-use borrow.Author.Rules.{rules}
 use borrow.Author.Tests.{le-ltb, lt-ltb}
 use Rattle.session.specs.Session.{cut_short, length_at}
 use Rattle.session.proofs.is_cut_short.Goals as goal

@@ -1,5 +1,4 @@
 -- `session::is_due` meets its contract: the time is read where there is a record. Assumes nothing.
-use borrow.Author.Rules.{rules}
 use borrow.Author.Tests.{le-ltb, lt-ltb}
 use Rattle.session.specs.Session.{due_at}
 use Rattle.session.proofs.is_due.Goals as goal

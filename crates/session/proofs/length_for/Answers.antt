@@ -1,5 +1,4 @@
 -- `session::length_for` meets its contract: a kind past the table has no length. Assumes nothing.
-use borrow.Author.Rules.{rules}
 use mathlib.Core.Path.{sym, refl}
 use lib.ListN.{get_or-eq_default}
 use Rattle.session.specs.Session.{lengths, length_for}

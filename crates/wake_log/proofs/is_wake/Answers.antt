@@ -1,5 +1,4 @@
 -- `wake_log::is_wake` meets its contract: the same tests. Assumes nothing.
-use borrow.Author.Rules.{rules}
 use borrow.Author.Tests.{le-leb, lt-leb}
 use Rattle.wake_log.specs.Log.{is_wake}
 use Rattle.wake_log.proofs.Laws.{step_of, step_positive}

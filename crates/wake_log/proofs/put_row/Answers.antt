@@ -9,15 +9,12 @@ use Rattle.wake_log.proofs.Laws.{put_after, row_put}
 use Rattle.wake_log.proofs.put_row.Goals as goal
 
 pub returns : goal.returns
-returns c = let c2 = c3 in
-    let c1 = c2 in
-    let c0 = c1 in
-    let b = c0.requires in
-    let row = c0.args.row in
-    let l1 = put_after (laid_none c0.args.part.now) _ _ c1.put.ensures (omega arith) in
-    let l2 = put_after l1 _ _ c2.put-2.ensures (omega arith) in
+returns c = let b = c.requires in
+    let row = c.args.row in
+    let l1 = put_after (laid_none c.args.part.now) _ _ c.put.ensures (omega arith) in
+    let l2 = put_after l1 _ _ c.put-2.ensures (omega arith) in
     let l3 = put_after l2 _ _ c.put-3.ensures (omega arith) in
     let l4 = put_after l3 _ _ c.put-4.ensures (omega arith) in
     let h : row.cause < 256 = search rules in
     let g : row.behind < 256 = search rules in
-    l4.same ∙ ap (λ p. over p c0.args.part.now) (row_put row h g)
+    l4.same ∙ ap (λ p. over p c.args.part.now) (row_put row h g)

@@ -1,7 +1,5 @@
 -- `wake_log::write_row` meets its contract: a row over the front of what is left of the log. Assumes nothing.
-use borrow.Author.Rules.{rules}
-use native.Mathlib.Omega.{arith}
-use Rattle.wake_log.proofs.Laws.{room, part_room, row_part}
+use Rattle.wake_log.proofs.Laws.{row_part}
 use Rattle.wake_log.proofs.write_row.Goals as goal
 
 pub returns : goal.returns
