@@ -1,0 +1,14 @@
+-- `assembling::check` meets its contract: each turn checks one line more. Assumes nothing.
+use borrow.Author.Rules.{rules}
+use Prim.Native.Nat.{◌+◌, ◌-◌}
+use native.Mathlib.Omega.{arith}
+use lib.ListN.{length}
+use Rattle.assembling.specs.Assembling.{due_next}
+use Rattle.assembling.proofs.Laws.{forward, Checking, checking_starts, checking_stops, checking_goes, checking_ends}
+use Rattle.assembling.proofs.check.Given as goal
+
+abbrev pub invariant-loop-at : goal.invariant-loop-at
+invariant-loop-at l = Checking l.text l.at l.due l.line l.n
+
+abbrev pub decreases-loop-at : goal.decreases-loop-at
+decreases-loop-at l = length l.text - l.at
