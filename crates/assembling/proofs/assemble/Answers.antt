@@ -1,8 +1,6 @@
 -- `assembling::assemble` meets its contract: one law for each way out. Assumes nothing.
-use borrow.Author.Rules.{rules}
 use mathlib.Core.Path.{sym, ◌∙◌}
-use Rattle.assembling.specs.Assembling.{outcome_of}
-use Rattle.assembling.proofs.Laws.{counted_good, answer_empty, answer_bad, answer_full, answer_wrote}
+use Rattle.assembling.proofs.Laws.{answer_empty, answer_bad, answer_full, answer_wrote}
 use Rattle.assembling.proofs.assemble.Goals as goal
 
 pub returns-then-text-eq0 : goal.returns-then-text-eq0

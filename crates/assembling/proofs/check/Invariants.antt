@@ -1,10 +1,7 @@
 -- `assembling::check` meets its contract: each turn checks one line more. Assumes nothing.
-use borrow.Author.Rules.{rules}
-use Prim.Native.Nat.{◌+◌, ◌-◌}
-use native.Mathlib.Omega.{arith}
+use Prim.Native.Nat.{◌-◌}
 use lib.ListN.{length}
-use Rattle.assembling.specs.Assembling.{due_next}
-use Rattle.assembling.proofs.Laws.{forward, Checking, checking_starts, checking_stops, checking_goes, checking_ends}
+use Rattle.assembling.proofs.Laws.{Checking}
 use Rattle.assembling.proofs.check.Given as goal
 
 abbrev pub invariant-loop-at : goal.invariant-loop-at
