@@ -1,5 +1,6 @@
 // The area in single and leaping runs side by side: docs/CASES.md works the expected lines from 01, 02 and its readings.
 #![tactic(auto)]
+
 use bits::Flag;
 use boundary::Watch;
 use cabinet::{Leapt, Ran};
@@ -122,50 +123,51 @@ fn started(m: Machine, s: Start) -> Machine {
     with_registers(with_bus(m, s), s)
 }
 
-fn number(name: &[u8], n: u64) {
-    io::write_all(1, name);
-    io::print_decimal(1, n);
+fn number(rt: &impl Print, name: &[u8], n: u64) {
+    host::show(rt, name);
+    host::show_decimal(rt, n);
 }
 
-fn hex(name: &[u8], n: u64, digits: usize) {
-    io::write_all(1, name);
-    io::print_hex(1, n, digits);
+fn hex(rt: &impl Print, name: &[u8], n: u64, digits: usize) {
+    host::show(rt, name);
+    host::show_hexadecimal(rt, n, digits);
 }
 
-fn show_counts(r: Ran) {
+fn show_counts(rt: &impl Print, r: Ran) {
     let reply = r.reply;
-    number(b" stop ", reply.number() as u64);
-    number(b" cycles ", r.cycles.0 as u64);
-    number(b" instr ", r.instructions.0 as u64);
-    number(b" entries ", r.entries.0 as u64);
-    number(b" used ", r.used.0 as u64);
-    number(b" sent ", r.sent.0 as u64);
+    number(rt, b" stop ", reply.number() as u64);
+    number(rt, b" cycles ", r.cycles.0 as u64);
+    number(rt, b" instr ", r.instructions.0 as u64);
+    number(rt, b" entries ", r.entries.0 as u64);
+    number(rt, b" used ", r.used.0 as u64);
+    number(rt, b" sent ", r.sent.0 as u64);
 }
 
-fn show_machine(m: Machine) {
+fn show_machine(rt: &impl Print, m: Machine) {
     let c = m.chip.registers;
-    hex(b" pc ", c.pc as u64, 4);
-    hex(b" a ", c.a as u64, 2);
-    hex(b" sp ", c.sp as u64, 4);
-    hex(b" cc ", c.codes.to_byte() as u64, 2);
-    number(b" waiting ", c.waiting as u64);
-    number(b" nmi ", m.nmi as u64);
-    number(b" rame ", m.chip.bus.rame as u64);
-    number(b" standby ", m.chip.bus.standby as u64);
+    hex(rt, b" pc ", c.pc as u64, 4);
+    hex(rt, b" a ", c.a as u64, 2);
+    hex(rt, b" sp ", c.sp as u64, 4);
+    hex(rt, b" cc ", c.codes.to_byte() as u64, 2);
+    number(rt, b" waiting ", c.waiting as u64);
+    number(rt, b" nmi ", m.nmi as u64);
+    number(rt, b" rame ", m.chip.bus.rame as u64);
+    number(rt, b" standby ", m.chip.bus.standby as u64);
 }
 
-fn show_change(name: &[u8], at: u64, before: u8, after: u8) {
+fn show_change(rt: &impl Print, name: &[u8], at: u64, before: u8, after: u8) {
     if before != after {
-        hex(name, at, 4);
-        hex(b"] ", after as u64, 2);
+        hex(rt, name, at, 4);
+        hex(rt, b"] ", after as u64, 2);
     }
 }
 
 // The bytes that are not as they were; `at` is the address of the first.
-fn show_changes(name: &[u8], at: u64, before: &[u8], after: &[u8]) {
+fn show_changes(rt: &impl Print, name: &[u8], at: u64, before: &[u8], after: &[u8]) {
     for k in 0..after.len() {
         if k < before.len() {
             show_change(
+                rt,
                 name,
                 std::num::wrapping_add_u64(at, k as u64),
                 before[k],
@@ -176,27 +178,36 @@ fn show_changes(name: &[u8], at: u64, before: &[u8], after: &[u8]) {
 }
 
 // What a run reports, and what it left of all that was lent.
-fn show(leapt: Leapt, code: &[u8], image: &[u8], area: &[u8], output: &[u8], log: &[u8]) {
+fn show(
+    rt: &impl Print,
+    leapt: Leapt,
+    code: &[u8],
+    image: &[u8],
+    area: &[u8],
+    output: &[u8],
+    log: &[u8],
+) {
     let r = leapt.ran;
     let m = r.machine;
     let before = rom(code);
     let beside = outside();
-    show_counts(r);
-    show_machine(m);
-    show_changes(b" [", 0, &before, image);
-    show_changes(b" area[", 0x80, &beside, area);
-    show_changes(b" output[", 0, b"\xEE", output);
-    show_changes(b" log[", 0, b"\xEE\xEE\xEE\xEE\xEE\xEE\xEE\xEE", log);
+    show_counts(rt, r);
+    show_machine(rt, m);
+    show_changes(rt, b" [", 0, &before, image);
+    show_changes(rt, b" area[", 0x80, &beside, area);
+    show_changes(rt, b" output[", 0, b"\xEE", output);
+    show_changes(rt, b" log[", 0, b"\xEE\xEE\xEE\xEE\xEE\xEE\xEE\xEE", log);
 }
 
-fn show_leaps(leaping: bool, leapt: Leapt) {
+fn show_leaps(rt: &impl Print, leaping: bool, leapt: Leapt) {
     if leaping {
-        number(b" leaps ", leapt.leaps.0 as u64);
+        number(rt, b" leaps ", leapt.leaps.0 as u64);
     }
 }
 
 // Either run.
 fn run(
+    rt: &impl Print,
     leaping: bool,
     code: &[u8],
     session: &[u8],
@@ -212,12 +223,20 @@ fn run(
         since: Cycles(0),
     };
     let leapt = cabinet::watch_either(leaping, image, area, m, session, l.n, watch, output, log);
-    show(leapt, code, &image[..], &area[..], &output[..], &log[..]);
-    show_leaps(leaping, leapt);
+    show(
+        rt,
+        leapt,
+        code,
+        &image[..],
+        &area[..],
+        &output[..],
+        &log[..],
+    );
+    show_leaps(rt, leaping, leapt);
 }
 
 // The same with what a case lends.
-fn lend(leaping: bool, code: &[u8], session: &[u8], m: Machine, l: Lends) {
+fn lend(rt: &impl Print, leaping: bool, code: &[u8], session: &[u8], m: Machine, l: Lends) {
     let mut image = rom(code);
     let mut area = outside();
     let mut output = [0xEEu8; 1];
@@ -227,6 +246,7 @@ fn lend(leaping: bool, code: &[u8], session: &[u8], m: Machine, l: Lends) {
     let room = io::count(l.output, &output);
     let rows = io::count(l.log, &log);
     run(
+        rt,
         leaping,
         code,
         session,
@@ -239,18 +259,18 @@ fn lend(leaping: bool, code: &[u8], session: &[u8], m: Machine, l: Lends) {
     );
 }
 
-fn both(title: &[u8], code: &[u8], session: &[u8], s: Start, l: Lends) {
+fn both(rt: &impl Print, title: &[u8], code: &[u8], session: &[u8], s: Start, l: Lends) {
     let image = rom(code);
     let Power::On(m) = cabinet::power_on(&image, 65536) else {
         return;
     };
     let start = started(m, s);
-    io::write_all(1, title);
-    io::write_all(1, b"\n  single ");
-    lend(false, code, session, start, l);
-    io::write_all(1, b"\n  leaping");
-    lend(true, code, session, start, l);
-    io::write_all(1, b"\n");
+    host::show(rt, title);
+    host::show(rt, b"\n  single ");
+    lend(rt, false, code, session, start, l);
+    host::show(rt, b"\n  leaping");
+    lend(rt, true, code, session, start, l);
+    host::show(rt, b"\n");
 }
 
 // Bit 6 as said, bit 7 the other way round.
@@ -278,46 +298,46 @@ fn whole(n: u32) -> Lends {
     }
 }
 
-fn jumping(title: &[u8], jump: &[u8], rame: bool) {
-    both(title, jump, b"", with_bit(rame, 65536), whole(20));
+fn jumping(rt: &impl Print, title: &[u8], jump: &[u8], rame: bool) {
+    both(rt, title, jump, b"", with_bit(rame, 65536), whole(20));
 }
 
-fn codes() {
-    jumping(b"code in the RAM clears the bit", b"\x7E\x00\x80", true);
-    jumping(b"code in the area sets it again", b"\x7E\x00\x88", true);
-    jumping(b"starting with the bit clear", b"\x7E\x00\x83", false);
-    jumping(b"undefined in the area", b"\x7E\x00\x80", false);
-    jumping(b"undefined in the RAM", b"\x7E\x00\x83", true);
+fn codes(rt: &impl Print) {
+    jumping(rt, b"code in the RAM clears the bit", b"\x7E\x00\x80", true);
+    jumping(rt, b"code in the area sets it again", b"\x7E\x00\x88", true);
+    jumping(rt, b"starting with the bit clear", b"\x7E\x00\x83", false);
+    jumping(rt, b"undefined in the area", b"\x7E\x00\x80", false);
+    jumping(rt, b"undefined in the RAM", b"\x7E\x00\x83", true);
 }
 
-fn edge(title: &[u8], rame: bool, r: u32) {
-    both(title, &STRAIGHT, b"", with_bit(rame, r), whole(50));
+fn edge(rt: &impl Print, title: &[u8], rame: bool, r: u32) {
+    both(rt, title, &STRAIGHT, b"", with_bit(rame, r), whole(50));
 }
 
-fn edges() {
-    edge(b"straight code", false, 65536);
-    edge(b"straight code, R 100", false, 0x100);
-    edge(b"straight code, R C0", false, 0xC0);
-    edge(b"straight code, R 80", false, 0x80);
-    edge(b"straight code, bit set", true, 65536);
-    edge(b"straight code, bit set, R 80", true, 0x80);
+fn edges(rt: &impl Print) {
+    edge(rt, b"straight code", false, 65536);
+    edge(rt, b"straight code, R 100", false, 0x100);
+    edge(rt, b"straight code, R C0", false, 0xC0);
+    edge(rt, b"straight code, R 80", false, 0x80);
+    edge(rt, b"straight code, bit set", true, 65536);
+    edge(rt, b"straight code, bit set, R 80", true, 0x80);
 }
 
-fn storing(title: &[u8], r: u32) {
-    both(title, &STORES, b"", with_bit(false, r), whole(11));
+fn storing(rt: &impl Print, title: &[u8], r: u32) {
+    both(rt, title, &STORES, b"", with_bit(false, r), whole(11));
 }
 
-fn writes() {
+fn writes(rt: &impl Print) {
     let on = with_bit(true, 65536);
     let mut sending = with_bit(false, 65536);
     sending.sending = true;
     let mut full = whole(20);
     full.output = 0;
-    both(b"9, both written", &STORES, b"", sending, full);
-    storing(b"0, both written", 65536);
-    storing(b"R F1", 0xF1);
-    storing(b"R F0", 0xF0);
-    both(b"the bit turned by COM", &TURNS, b"", on, whole(24));
+    both(rt, b"9, both written", &STORES, b"", sending, full);
+    storing(rt, b"0, both written", 65536);
+    storing(rt, b"R F1", 0xF1);
+    storing(rt, b"R F0", 0xF0);
+    both(rt, b"the bit turned by COM", &TURNS, b"", on, whole(24));
 }
 
 fn entering(sp: u16, r: u32) -> Start {
@@ -327,22 +347,22 @@ fn entering(sp: u16, r: u32) -> Start {
     s
 }
 
-fn entry(title: &[u8], sp: u16, r: u32) {
-    both(title, &STAY, b"", entering(sp, r), whole(30));
+fn entry(rt: &impl Print, title: &[u8], sp: u16, r: u32) {
+    both(rt, title, &STAY, b"", entering(sp, r), whole(30));
 }
 
 // NMI at 5.
 const SOON: [u8; 8] = *b"\x06\x00\x04\x00\x05\x00\x00\x00";
 
-fn entries() {
+fn entries(rt: &impl Print) {
     let jump = b"\x7E\x00\x85";
     let off = with_bit(false, 65536);
-    entry(b"NMI", 0x00F0, 65536);
-    entry(b"NMI, R ED", 0x00F0, 0xED);
-    entry(b"NMI, R 80", 0x00F0, 0x80);
-    entry(b"NMI across $FF and $100", 0x0102, 65536);
-    entry(b"NMI across $7F and $80", 0x0082, 65536);
-    both(b"NMI of code in the area", jump, &SOON, off, whole(30));
+    entry(rt, b"NMI", 0x00F0, 65536);
+    entry(rt, b"NMI, R ED", 0x00F0, 0xED);
+    entry(rt, b"NMI, R 80", 0x00F0, 0x80);
+    entry(rt, b"NMI across $FF and $100", 0x0102, 65536);
+    entry(rt, b"NMI across $7F and $80", 0x0082, 65536);
+    both(rt, b"NMI of code in the area", jump, &SOON, off, whole(30));
 }
 
 // NMI, IRQ1 low and reset, each at 100.
@@ -352,44 +372,53 @@ const LOW: [u8; 9] = *b"\x07\x00\x03\x00\x64\x00\x00\x00\x00";
 
 const RESET: [u8; 8] = *b"\x06\x00\x07\x00\x64\x00\x00\x00";
 
-fn waits() {
+fn waits(rt: &impl Print) {
     let off = with_bit(false, 65536);
     let mut waiting = off;
     waiting.waiting = true;
     let mut open = with_bit(true, 65536);
     open.masked = false;
-    both(b"a wait", &IDLE, &NMI, off, whole(130));
+    both(rt, b"a wait", &IDLE, &NMI, off, whole(130));
     both(
+        rt,
         b"a wait, R 80",
         &IDLE,
         &NMI,
         with_bit(false, 0x80),
         whole(130),
     );
-    both(b"waiting from the start", &STAY, b"", waiting, whole(1000));
     both(
+        rt,
+        b"waiting from the start",
+        &STAY,
+        b"",
+        waiting,
+        whole(1000),
+    );
+    both(
+        rt,
         b"the bit cleared in the handler",
         &IDLE,
         &LOW,
         open,
         whole(120),
     );
-    both(b"a reset in a wait", &SLEEP, &RESET, off, whole(150));
+    both(rt, b"a reset in a wait", &SLEEP, &RESET, off, whole(150));
 }
 
 // The case `NMI` with the log asked for.
-fn logged(title: &[u8], area: isize, log: isize) {
+fn logged(rt: &impl Print, title: &[u8], area: isize, log: isize) {
     let mut l = whole(30);
     l.area = area;
     l.log = log;
     l.logs = true;
-    both(title, &STAY, b"", entering(0x00F0, 65536), l);
+    both(rt, title, &STAY, b"", entering(0x00F0, 65536), l);
 }
 
-fn logs() {
-    logged(b"a row logged", 128, 8);
-    logged(b"no room for a row", 128, 7);
-    logged(b"an area of 127 bytes and the log", 127, 8);
+fn logs(rt: &impl Print) {
+    logged(rt, b"a row logged", 128, 8);
+    logged(rt, b"no room for a row", 128, 7);
+    logged(rt, b"an area of 127 bytes and the log", 127, 8);
 }
 
 // A record cut short, a kind that is unknown, 32 as pins of port 2, and an NMI at 4 after one at 5.
@@ -401,19 +430,19 @@ const VALUE: [u8; 9] = *b"\x07\x00\x02\x00\x00\x00\x00\x00\x20";
 
 const TIME: [u8; 16] = *b"\x06\x00\x04\x00\x05\x00\x00\x00\x06\x00\x04\x00\x04\x00\x00\x00";
 
-fn refused(title: &[u8], session: &[u8], l: Lends) {
-    both(title, &STAY, session, entering(0x00F0, 65536), l);
+fn refused(rt: &impl Print, title: &[u8], session: &[u8], l: Lends) {
+    both(rt, title, &STAY, session, entering(0x00F0, 65536), l);
 }
 
-fn bad_sessions(l: Lends) {
-    refused(b"with a record cut short", &CUT, l);
-    refused(b"with an unknown kind", &KIND, l);
-    refused(b"with a wrong value", &VALUE, l);
-    refused(b"with a wrong time", &TIME, l);
+fn bad_sessions(rt: &impl Print, l: Lends) {
+    refused(rt, b"with a record cut short", &CUT, l);
+    refused(rt, b"with an unknown kind", &KIND, l);
+    refused(rt, b"with a wrong value", &VALUE, l);
+    refused(rt, b"with a wrong time", &TIME, l);
 }
 
 // An area of so many bytes, alone and with each other refusal.
-fn refusals(title: &[u8], area: isize) {
+fn refusals(rt: &impl Print, title: &[u8], area: isize) {
     let mut l = whole(30);
     l.area = area;
     let mut short = l;
@@ -421,24 +450,24 @@ fn refusals(title: &[u8], area: isize) {
     let mut long = l;
     long.n = 1000000001;
     let wrong = entering(0x00F0, 65537);
-    io::write_all(1, title);
-    io::write_all(1, b"\n");
-    refused(b"alone", b"", l);
-    refused(b"with a wrong image", b"", short);
-    both(b"with a wrong machine", &STAY, b"", wrong, l);
-    refused(b"with a wrong limit", b"", long);
-    bad_sessions(l);
+    host::show(rt, title);
+    host::show(rt, b"\n");
+    refused(rt, b"alone", b"", l);
+    refused(rt, b"with a wrong image", b"", short);
+    both(rt, b"with a wrong machine", &STAY, b"", wrong, l);
+    refused(rt, b"with a wrong limit", b"", long);
+    bad_sessions(rt, l);
 }
 
-fn main() {
-    codes();
-    edges();
-    writes();
-    entries();
-    waits();
-    logs();
-    refusals(b"an area of 127 bytes", 127);
-    refusals(b"an area of 129 bytes", 129);
-    refusals(b"an area of 0 bytes", 0);
-    refusals(b"an area of 128 bytes", 128);
+fn main(rt: HostRuntime) {
+    codes(&rt);
+    edges(&rt);
+    writes(&rt);
+    entries(&rt);
+    waits(&rt);
+    logs(&rt);
+    refusals(&rt, b"an area of 127 bytes", 127);
+    refusals(&rt, b"an area of 129 bytes", 129);
+    refusals(&rt, b"an area of 0 bytes", 0);
+    refusals(&rt, b"an area of 128 bytes", 128);
 }

@@ -1,11 +1,14 @@
 // The assembler program: LISTING BYTES. It puts the bytes of a listing's text into the file BYTES, whole or not at all, and prints one line.
 #![tactic(auto)]
+
 ghost use Rattle.std.specs.Prelude.{◌≡◌, length};
 
 use assembling::Assembled;
+use std::fs::Files;
+use std::io::Result;
 
-fn refuse(number: u8) {
-    lines::refused(number).text(b"\n").print();
+fn refuse(rt: &impl Print, number: u8) {
+    lines::refused(number).text(b"\n").print(rt);
 }
 
 // Zeros for a text. A good one has at most 1,638,400 bytes, and a line is judged by its first 28: what is longer has its first bad line within these.
@@ -15,110 +18,91 @@ fn text_buffer() -> [u8; 1638428]
     [0; 1638428]
 }
 
-// What an open file or folder holds has reached the device, and it is closed.
-fn sync(fd: i32) -> bool {
-    let synced = libc::fsync(fd);
-    let closed = libc::close(fd);
-    (synced == 0) & (closed == 0)
-}
-
 // The folder in which a file lies, open.
-fn open_home(name: &[u8]) -> i32 {
+fn open_home<R: Files>(rt: &R, name: &[u8]) -> Result<R::File> {
     let at = night_names::last_at(name);
     if at == 0 {
-        return os::open_read(b".");
+        return host::open(rt, b".");
     }
-    os::open_read(&name[..at])
+    host::open(rt, &name[..at])
 }
 
 // A new file of this name holds the bytes, and so on the device; or there is none.
-fn make(name: &[u8], bytes: &[u8]) -> bool {
-    let fd = os::create(name);
-    if fd < 0 {
+fn make(rt: &impl Files, name: &[u8], bytes: &[u8]) -> bool {
+    let Ok(mut file) = host::create(rt, name) else {
         return false;
-    }
-    let written = io::write_all(fd, bytes);
-    if sync(fd) & written {
+    };
+    let written = host::write_all(&mut file, bytes);
+    if host::sync(file) & written {
         return true;
     }
-    os::unlink(name);
+    let _ = host::remove_file(rt, name);
     false
 }
 
 // The file of this name holds the bytes: made as BYTES.new, and put in its place.
-fn put(name: &[u8], bytes: &[u8]) -> bool {
+fn put(rt: &impl Files, name: &[u8], bytes: &[u8]) -> bool {
     let mut path = io::buffer();
     let n = night_arguments::joined(name, b".new", &mut path);
-    if !make(&path[..n], bytes) {
+    if !make(rt, &path[..n], bytes) {
         return false;
     }
-    if os::rename(&path[..n], name) == 0 {
+    if host::rename(rt, &path[..n], name).is_ok() {
         return true;
     }
-    os::unlink(&path[..n]);
+    let _ = host::remove_file(rt, &path[..n]);
     false
 }
 
 // The same, and so on the device. A folder that cannot be opened is told before the file is replaced.
-fn keep(name: &[u8], bytes: &[u8]) -> bool {
-    let home = open_home(name);
-    if home < 0 {
+fn keep(rt: &impl Files, name: &[u8], bytes: &[u8]) -> bool {
+    let Ok(home) = open_home(rt, name) else {
         return false;
-    }
-    let placed = put(name, bytes);
-    sync(home) & placed
+    };
+    let placed = put(rt, name, bytes);
+    host::sync(home) & placed
 }
 
-fn tell(name: &[u8], bytes: &[u8], answer: Assembled) {
-    if keep(name, bytes) {
-        listing_answers::assembled_line(answer).print();
+fn tell(rt: &(impl Files + Print), name: &[u8], bytes: &[u8], answer: Assembled) {
+    if keep(rt, name, bytes) {
+        listing_answers::assembled_line(answer).print(rt);
     } else {
-        refuse(34);
+        refuse(rt, 34);
     }
 }
 
-fn assemble(name: &[u8], text: &[u8]) {
+fn assemble(rt: &(impl Files + Print), name: &[u8], text: &[u8]) {
     let mut bytes = io::large_buffer();
     let answer = assembling::assemble(text, &mut bytes);
     match answer {
-        Assembled::Wrote(_, n) => tell(name, asking::filled(&bytes, n), answer),
-        Assembled::Empty => tell(name, b"", answer),
-        _ => listing_answers::assembled_line(answer).print(),
+        Assembled::Wrote(_, n) => tell(rt, name, asking::filled(&bytes, n), answer),
+        Assembled::Empty => tell(rt, name, b"", answer),
+        _ => listing_answers::assembled_line(answer).print(rt),
     }
 }
 
-// Whether an open file has ended, or has more than the buffer could take.
-fn is_read(fd: i32, full: bool) -> bool {
-    let mut byte = [0u8; 1];
-    let got = libc::read(fd, &mut byte);
-    (got == 0) | (full & (got > 0))
-}
-
-fn assemble_file(listing: &[u8], name: &[u8]) {
-    let fd = os::open_read(listing);
-    if fd < 0 {
-        refuse(33);
+fn assemble_file(rt: &(impl Files + Print), listing: &[u8], name: &[u8]) {
+    let Ok(mut file) = host::open(rt, listing) else {
+        refuse(rt, 33);
         return;
-    }
+    };
     let mut text = text_buffer();
-    let n = io::read_full(fd, &mut text);
-    let read = is_read(fd, n == 1638428);
-    libc::close(fd);
-    if !read {
-        refuse(33);
+    let n = host::read_full(&mut file, &mut text);
+    if !host::is_read(&mut file, n == 1638428) {
+        refuse(rt, 33);
         return;
     }
-    assemble(name, &text[..n]);
+    assemble(rt, name, &text[..n]);
 }
 
-fn main() {
+fn main(rt: HostRuntime) {
     let mut listing = io::buffer();
-    let n = os::arg(1, &mut listing);
+    let n = host::argument(&rt, 1, &mut listing);
     let mut name = io::buffer();
-    let m = os::arg(2, &mut name);
-    if (os::arg_count() != 3) | (n == 0) | (m == 0) {
-        refuse(32);
+    let m = host::argument(&rt, 2, &mut name);
+    if !host::has_argument(&rt, 2) | host::has_argument(&rt, 3) | (n == 0) | (m == 0) {
+        refuse(&rt, 32);
         return;
     }
-    assemble_file(&listing[..n], &name[..m]);
+    assemble_file(&rt, &listing[..n], &name[..m]);
 }

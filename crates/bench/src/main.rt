@@ -2,18 +2,24 @@
 // longer input is known as one; one that cannot be read to its end is a bad one.
 #![tactic(auto)]
 
+use host::Rest;
+use std::io::Read;
+
 // Whether the input has ended: one more read gives nothing, and does not fail.
-fn has_ended() -> bool {
-    let mut byte = [0u8; 1];
-    libc::read(0, &mut byte) == 0
+fn has_ended(source: &mut impl Read) -> bool {
+    match host::what_follows(source) {
+        Rest::Nothing => true,
+        _ => false,
+    }
 }
 
-fn main() {
+fn main(rt: HostRuntime) {
+    let mut source = rt.stdin();
     let mut input = [0u8; 16385];
-    let n = io::read_full(0, &mut input);
-    if has_ended() {
-        bench_answer::answer(&input[..n]).print();
+    let n = host::read_full(&mut source, &mut input);
+    if has_ended(&mut source) {
+        bench_answer::answer(&input[..n]).print(&rt);
     } else {
-        bench_answer::bad_line().print();
+        bench_answer::bad_line().print(&rt);
     }
 }

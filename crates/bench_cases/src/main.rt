@@ -1,5 +1,6 @@
 // The bench program's line for each of many inputs, which stand one after the other, each after its length in two bytes.
 #![tactic(auto)]
+
 ghost use Rattle.std.specs.Prelude.{◌≤◌, ◌<◌, length};
 
 fn wide(b: u8) -> usize
@@ -9,7 +10,7 @@ fn wide(b: u8) -> usize
 }
 
 // The place after the input at a place, which is shown where all of it is there.
-fn show(cases: &[u8], at: usize) -> usize
+fn show(rt: &impl Print, cases: &[u8], at: usize) -> usize
     requires { at < length cases.now }
     ensures { (at < result) × (result ≤ length cases.now) }
 {
@@ -22,19 +23,19 @@ fn show(cases: &[u8], at: usize) -> usize
         return cases.len();
     }
     let to = from + size;
-    bench_answer::answer(&cases[from..to]).print();
+    bench_answer::answer(&cases[from..to]).print(rt);
     to
 }
 
-fn show_all(cases: &[u8]) {
+fn show_all(rt: &impl Print, cases: &[u8]) {
     let mut at = 0;
     while at < cases.len() {
-        at = show(cases, at);
+        at = show(rt, cases, at);
     }
 }
 
-fn main() {
+fn main(rt: HostRuntime) {
     let mut cases = io::large_buffer();
-    let n = io::read_full(0, &mut cases);
-    show_all(&cases[..n]);
+    let n = host::read_full(&mut rt.stdin(), &mut cases);
+    show_all(&rt, &cases[..n]);
 }

@@ -1,5 +1,6 @@
 // The places of what the C calls write, as board/pliruzza.h names them: each number is written with a byte of its own, and found again.
 #![tactic(auto)]
+
 use board_results::Counted;
 use counts::{Cycles, Entries, Instructions, Leaps, Records, Sent};
 use opcodes::{Accumulator, Dyadic, Instruction, Operation, Place};
@@ -7,14 +8,14 @@ use printing::Line;
 use replies::Reply;
 use wake_log::Row;
 
-fn tell(name: &[u8], n: usize) {
+fn tell(rt: &impl Print, name: &[u8], n: usize) {
     Line::empty()
         .text(b"PLIRUZZA_")
         .text(name)
         .text(b" = ")
         .decimal(n as u64)
         .text(b"\n")
-        .print();
+        .print(rt);
 }
 
 // Where a byte stands first, or the end.
@@ -49,15 +50,15 @@ fn result() -> [u8; 44] {
     result
 }
 
-fn tell_result(res: &[u8]) {
-    tell(b"AT_REPLY", place_of(7, res));
-    tell(b"AT_CYCLES", place_of(0x11, res));
-    tell(b"AT_INSTRUCTIONS", place_of(0x22, res));
-    tell(b"AT_ENTRIES", place_of(0x33, res));
-    tell(b"AT_USED", place_of(0x44, res));
-    tell(b"AT_SENT", place_of(0x55, res));
-    tell(b"AT_RECORD", place_of(0x66, res));
-    tell(b"AT_LEAPS", place_of(0x77, res));
+fn tell_result(rt: &impl Print, res: &[u8]) {
+    tell(rt, b"AT_REPLY", place_of(7, res));
+    tell(rt, b"AT_CYCLES", place_of(0x11, res));
+    tell(rt, b"AT_INSTRUCTIONS", place_of(0x22, res));
+    tell(rt, b"AT_ENTRIES", place_of(0x33, res));
+    tell(rt, b"AT_USED", place_of(0x44, res));
+    tell(rt, b"AT_SENT", place_of(0x55, res));
+    tell(rt, b"AT_RECORD", place_of(0x66, res));
+    tell(rt, b"AT_LEAPS", place_of(0x77, res));
 }
 
 // The answer about an opcode: ADD of B, group 1, operation 9, accumulator 2; extended, which is place 7; 3 bytes, 4 cycles.
@@ -71,13 +72,13 @@ fn answer() -> [u8; 6] {
     board_numbers::instruction_bytes(add)
 }
 
-fn tell_answer(answer: &[u8]) {
-    tell(b"AT_GROUP", place_of(1, answer));
-    tell(b"AT_OPERATION", place_of(9, answer));
-    tell(b"AT_ACCUMULATOR", place_of(2, answer));
-    tell(b"AT_PLACE", place_of(7, answer));
-    tell(b"AT_LENGTH", place_of(3, answer));
-    tell(b"AT_CYCLES_TAKEN", place_of(4, answer));
+fn tell_answer(rt: &impl Print, answer: &[u8]) {
+    tell(rt, b"AT_GROUP", place_of(1, answer));
+    tell(rt, b"AT_OPERATION", place_of(9, answer));
+    tell(rt, b"AT_ACCUMULATOR", place_of(2, answer));
+    tell(rt, b"AT_PLACE", place_of(7, answer));
+    tell(rt, b"AT_LENGTH", place_of(3, answer));
+    tell(rt, b"AT_CYCLES_TAKEN", place_of(4, answer));
 }
 
 // A row of the wake log, written as the first and as the second.
@@ -101,11 +102,11 @@ fn second_row() -> [u8; 16] {
     log
 }
 
-fn tell_row(first: &[u8], second: &[u8]) {
-    tell(b"ROW", place_of(0x11, second));
-    tell(b"ROW_CYCLE", place_of(0x11, first));
-    tell(b"ROW_CAUSE", place_of(0x22, first));
-    tell(b"ROW_BEHIND", place_of(0x33, first));
+fn tell_row(rt: &impl Print, first: &[u8], second: &[u8]) {
+    tell(rt, b"ROW", place_of(0x11, second));
+    tell(rt, b"ROW_CYCLE", place_of(0x11, first));
+    tell(rt, b"ROW_CAUSE", place_of(0x22, first));
+    tell(rt, b"ROW_BEHIND", place_of(0x33, first));
 }
 
 // Whether a set of bits asks for the log: 1, else 0.
@@ -113,16 +114,17 @@ fn asks(bits: u32) -> u8 {
     if board_numbers::asks_log(bits) { 1 } else { 0 }
 }
 
-fn main() {
-    tell(b"SINGLE", board_results::record_size(false));
-    tell(b"LEAPING", board_results::record_size(true));
+fn main(rt: HostRuntime) {
+    tell(&rt, b"SINGLE", board_results::record_size(false));
+    tell(&rt, b"LEAPING", board_results::record_size(true));
     let answer = answer();
-    tell(b"ANSWER", answer.len());
-    tell_result(&result());
-    tell_answer(&answer);
+    tell(&rt, b"ANSWER", answer.len());
+    tell_result(&rt, &result());
+    tell_answer(&rt, &answer);
     tell(
+        &rt,
         b"WATCH_LOG",
         place_of(1, &[asks(0), asks(1), asks(2), asks(3)]),
     );
-    tell_row(&first_row(), &second_row());
+    tell_row(&rt, &first_row(), &second_row());
 }

@@ -1,6 +1,7 @@
 // Instructions that meet the registers, the edges of memory and the area: standard input has the rows, and each
 // answer says all that is not as it was before the row. docs/CASES.md explains the rows.
 #![tactic(auto)]
+
 ghost use Rattle.std.specs.Prelude.{◌<◌, ◌≤◌, length};
 
 use arithmetic::Codes;
@@ -196,122 +197,128 @@ fn run(machine: Machine, steps: u8, image: &mut [u8], area: &mut [u8]) -> Ran {
 }
 
 // What changed: its name and what it is now.
-fn show(name: &[u8], before: u16, after: u16, digits: usize) {
+fn show(rt: &impl Print, name: &[u8], before: u16, after: u16, digits: usize) {
     if before != after {
-        io::write_all(1, b" ");
-        io::write_all(1, name);
-        io::write_all(1, b" ");
-        io::print_hex(1, after as u64, digits);
+        host::show(rt, b" ");
+        host::show(rt, name);
+        host::show(rt, b" ");
+        host::show_hexadecimal(rt, after as u64, digits);
     }
 }
 
-fn show_byte(name: &[u8], before: u8, after: u8) {
-    show(name, before as u16, after as u16, 2);
+fn show_byte(rt: &impl Print, name: &[u8], before: u8, after: u8) {
+    show(rt, name, before as u16, after as u16, 2);
 }
 
-fn show_word(name: &[u8], before: u16, after: u16) {
-    show(name, before, after, 4);
+fn show_word(rt: &impl Print, name: &[u8], before: u16, after: u16) {
+    show(rt, name, before, after, 4);
 }
 
-fn show_bit(name: &[u8], before: bool, after: bool) {
-    show(name, before as u16, after as u16, 1);
+fn show_bit(rt: &impl Print, name: &[u8], before: bool, after: bool) {
+    show(rt, name, before as u16, after as u16, 1);
 }
 
-fn show_registers(was: Registers, is: Registers) {
-    show_word(b"pc", was.pc, is.pc);
-    show_byte(b"a", was.a, is.a);
-    show_byte(b"b", was.b, is.b);
-    show_word(b"x", was.x, is.x);
-    show_word(b"sp", was.sp, is.sp);
-    show_byte(b"cc", was.codes.to_byte(), is.codes.to_byte());
-    show_bit(b"waiting", was.waiting, is.waiting);
+fn show_registers(rt: &impl Print, was: Registers, is: Registers) {
+    show_word(rt, b"pc", was.pc, is.pc);
+    show_byte(rt, b"a", was.a, is.a);
+    show_byte(rt, b"b", was.b, is.b);
+    show_word(rt, b"x", was.x, is.x);
+    show_word(rt, b"sp", was.sp, is.sp);
+    show_byte(rt, b"cc", was.codes.to_byte(), is.codes.to_byte());
+    show_bit(rt, b"waiting", was.waiting, is.waiting);
 }
 
-fn show_ports(was: Ports, is: Ports) {
-    show_byte(b"direction1", was.port1.direction, is.port1.direction);
-    show_byte(b"latch1", was.port1.latch, is.port1.latch);
-    show_byte(b"direction2", was.port2.direction, is.port2.direction);
-    show_byte(b"latch2", was.port2.latch, is.port2.latch);
+fn show_ports(rt: &impl Print, was: Ports, is: Ports) {
+    show_byte(rt, b"direction1", was.port1.direction, is.port1.direction);
+    show_byte(rt, b"latch1", was.port1.latch, is.port1.latch);
+    show_byte(rt, b"direction2", was.port2.direction, is.port2.direction);
+    show_byte(rt, b"latch2", was.port2.latch, is.port2.latch);
 }
 
-fn show_timer(was: Timer, is: Timer) {
+fn show_timer(rt: &impl Print, was: Timer, is: Timer) {
     show_byte(
+        rt,
         b"tcsr",
         was.read(timer::TimerRegister::Tcsr).value,
         is.read(timer::TimerRegister::Tcsr).value,
     );
-    show_bit(b"tof-armed", was.tof.armed, is.tof.armed);
-    show_bit(b"ocf-armed", was.ocf.armed, is.ocf.armed);
-    show_bit(b"icf-armed", was.icf.armed, is.icf.armed);
-    show_word(b"counter", was.counter, is.counter);
-    show_word(b"compare", was.compare, is.compare);
-    show_word(b"capture", was.capture, is.capture);
-    show_bit(b"level", was.level, is.level);
+    show_bit(rt, b"tof-armed", was.tof.armed, is.tof.armed);
+    show_bit(rt, b"ocf-armed", was.ocf.armed, is.ocf.armed);
+    show_bit(rt, b"icf-armed", was.icf.armed, is.icf.armed);
+    show_word(rt, b"counter", was.counter, is.counter);
+    show_word(rt, b"compare", was.compare, is.compare);
+    show_word(rt, b"capture", was.capture, is.capture);
+    show_bit(rt, b"level", was.level, is.level);
 }
 
-fn show_serial(was: Serial, is: Serial) {
-    show_byte(b"trcs", was.trcs(), is.trcs());
-    show_bit(b"tdre-armed", was.tdre.armed, is.tdre.armed);
-    show_bit(b"orfe-armed", was.orfe.armed, is.orfe.armed);
-    show_bit(b"rdrf-armed", was.rdrf.armed, is.rdrf.armed);
-    show_byte(b"rate", was.rate, is.rate);
-    show_byte(b"received", was.received, is.received);
-    show_byte(b"transmit", was.transmit, is.transmit);
+fn show_serial(rt: &impl Print, was: Serial, is: Serial) {
+    show_byte(rt, b"trcs", was.trcs(), is.trcs());
+    show_bit(rt, b"tdre-armed", was.tdre.armed, is.tdre.armed);
+    show_bit(rt, b"orfe-armed", was.orfe.armed, is.orfe.armed);
+    show_bit(rt, b"rdrf-armed", was.rdrf.armed, is.rdrf.armed);
+    show_byte(rt, b"rate", was.rate, is.rate);
+    show_byte(rt, b"received", was.received, is.received);
+    show_byte(rt, b"transmit", was.transmit, is.transmit);
 }
 
-fn show_machine(was: Machine, is: Machine) {
+fn show_machine(rt: &impl Print, was: Machine, is: Machine) {
     let before = was.chip.bus;
     let after = is.chip.bus;
-    show_registers(was.chip.registers, is.chip.registers);
-    show_ports(before.ports, after.ports);
-    show_timer(before.timer, after.timer);
-    show_serial(before.serial, after.serial);
-    show_bit(b"rame", before.rame, after.rame);
-    show_bit(b"standby", before.standby, after.standby);
+    show_registers(rt, was.chip.registers, is.chip.registers);
+    show_ports(rt, before.ports, after.ports);
+    show_timer(rt, before.timer, after.timer);
+    show_serial(rt, before.serial, after.serial);
+    show_bit(rt, b"rame", before.rame, after.rame);
+    show_bit(rt, b"standby", before.standby, after.standby);
 }
 
 // A byte of a memory by its address, unless it is the row's code.
-fn show_cell(name: &[u8], at: u64, v: u8) {
+fn show_cell(rt: &impl Print, name: &[u8], at: u64, v: u8) {
     if (at < ORIGIN as u64) | ((ORIGIN + LONGEST) as u64 <= at) {
-        io::write_all(1, name);
-        io::print_hex(1, at, 4);
-        io::write_all(1, b"] ");
-        io::print_hex(1, v as u64, 2);
+        host::show(rt, name);
+        host::show_hexadecimal(rt, at, 4);
+        host::show(rt, b"] ");
+        host::show_hexadecimal(rt, v as u64, 2);
     }
 }
 
 // The bytes that are not of the pattern, which they then are again; `at` is the address of the first.
-fn show_memory(name: &[u8], at: u64, memory: &mut [u8], first: u8) {
+fn show_memory(rt: &impl Print, name: &[u8], at: u64, memory: &mut [u8], first: u8) {
     for k in 0..memory.len() {
         if memory[k] != pattern(first, k) {
-            show_cell(name, std::num::wrapping_add_u64(at, k as u64), memory[k]);
+            show_cell(
+                rt,
+                name,
+                std::num::wrapping_add_u64(at, k as u64),
+                memory[k],
+            );
             put(memory, k, pattern(first, k));
         }
     }
 }
 
-fn show_memories(image: &mut [u8], area: &mut [u8]) {
-    show_memory(b" [", 0, image, IMAGE);
-    show_memory(b" area[", 0x80, area, AREA);
+fn show_memories(rt: &impl Print, image: &mut [u8], area: &mut [u8]) {
+    show_memory(rt, b" [", 0, image, IMAGE);
+    show_memory(rt, b" area[", 0x80, area, AREA);
 }
 
-fn show_name(row: &[u8]) {
+fn show_name(rt: &impl Print, row: &[u8]) {
     let n = io::count(NAME, row);
-    io::write_all(1, &row[..n]);
+    host::show(rt, &row[..n]);
 }
 
 // A row's answer.
-fn answer(row: &[u8], image: &mut [u8], area: &mut [u8]) {
+fn answer(rt: &impl Print, row: &[u8], image: &mut [u8], area: &mut [u8]) {
     let machine = start(start_of(row));
     load(row, image);
     let ran = run(machine, digit(peek(row, STEPS)), image, area);
     let after = ran.machine;
-    show_name(row);
-    io::write_all(1, b"cycles ");
-    io::print_decimal(1, ran.cycles);
-    show_machine(machine, after);
-    show_memories(image, area);
-    io::write_all(1, b"\n");
+    show_name(rt, row);
+    host::show(rt, b"cycles ");
+    host::show_decimal(rt, ran.cycles);
+    show_machine(rt, machine, after);
+    show_memories(rt, image, area);
+    host::show(rt, b"\n");
 }
 
 // The first line's length, with its end.
@@ -329,21 +336,21 @@ fn line_length(text: &[u8]) -> usize
     n
 }
 
-fn answer_all(text: &[u8], image: &mut [u8], area: &mut [u8]) {
+fn answer_all(rt: &impl Print, text: &[u8], image: &mut [u8], area: &mut [u8]) {
     let mut at = 0;
     while at < text.len() {
         let end = at + line_length(&text[at..]);
-        answer(&text[at..end], image, area);
+        answer(rt, &text[at..end], image, area);
         at = end;
     }
 }
 
-fn main() {
+fn main(rt: HostRuntime) {
     let mut text = io::large_buffer();
-    let n = io::read_full(0, &mut text);
+    let n = host::read_full(&mut rt.stdin(), &mut text);
     let mut image = io::large_buffer();
     let mut area = [0u8; 128];
     fill(&mut image, IMAGE);
     fill(&mut area, AREA);
-    answer_all(&text[..n], &mut image, &mut area);
+    answer_all(&rt, &text[..n], &mut image, &mut area);
 }

@@ -1,16 +1,20 @@
 // The night program: [--area FILE] [--log FILE] [--] IMAGE SESSION N R STATE OUTPUT. It runs a night on the files, prints a line for each
 // slice and one for the night, and has night_commit put the new files in the old ones' places (docs/NIGHT.md).
 #![tactic(auto)]
+
 ghost use Rattle.std.specs.Prelude.{◌≡◌, length};
 ghost use Rattle.io.specs.Counts.{IsPrefixLen};
 
 use boundary::Watch;
 use counts::Cycles;
+use host::Rest;
 use machine::{Machine, Power};
 use night_arguments::Number;
 use night_slices::Night;
 use night_steps::Op;
 use saved::Loaded;
+use std::env::Env;
+use std::fs::Files;
 
 // What a file held: so many bytes, more than the buffer, or it is missing or cannot be read.
 #[derive(Clone, Copy)]
@@ -37,8 +41,8 @@ enum Begun {
     Refused(u8),
 }
 
-fn refuse(number: u8) {
-    lines::refused(number).text(b"\n").print();
+fn refuse(rt: &impl Print, number: u8) {
+    lines::refused(number).text(b"\n").print(rt);
 }
 
 // 1,048,576 zeros, for a session or a log.
@@ -48,38 +52,35 @@ fn zeros() -> [u8; 1048576]
     [0; 1048576]
 }
 
-// What is left to read of an open file: nothing, something, or it cannot be read.
-fn what_follows(fd: i32, count: usize) -> Held {
-    let mut byte = [0u8; 1];
-    let got = libc::read(fd, &mut byte);
-    if got < 0 {
-        return Held::Failed;
+// What an open file held, by what is left to read of it behind so many bytes.
+fn held_of(follows: Rest, count: usize) -> Held {
+    match follows {
+        Rest::Failed => Held::Failed,
+        Rest::Nothing => Held::Bytes(count),
+        Rest::Something => Held::Longer,
     }
-    if got == 0 {
-        return Held::Bytes(count);
-    }
-    Held::Longer
 }
 
 // A file's bytes are put at the buffer's front.
-fn read_file(name: &[u8], buffer: &mut [u8]) -> Held {
-    let fd = os::open_read(name);
-    if fd < 0 {
-        if os::errno() == libc::ENOENT {
-            return Held::Missing;
+fn read_file(rt: &impl Files, name: &[u8], buffer: &mut [u8]) -> Held {
+    match host::open(rt, name) {
+        Ok(mut file) => {
+            let count = host::read_full(&mut file, buffer);
+            held_of(host::what_follows(&mut file), count)
         }
-        return Held::Failed;
+        Err(error) => {
+            if host::is_absent(&error) {
+                return Held::Missing;
+            }
+            Held::Failed
+        }
     }
-    let count = io::read_full(fd, buffer);
-    let held = what_follows(fd, count);
-    libc::close(fd);
-    held
 }
 
 // The machine that the state file holds, or where there is none the machine that power-on gives.
-fn begin(state: &[u8], image: &[u8], r: u32) -> Begun {
+fn begin(rt: &impl Files, state: &[u8], image: &[u8], r: u32) -> Begun {
     let mut bytes = [0u8; 43];
-    let held = read_file(state, &mut bytes);
+    let held = read_file(rt, state, &mut bytes);
     match held {
         Held::Missing => switch_on(image, r),
         Held::Failed => Begun::Refused(33),
@@ -109,21 +110,22 @@ fn load(bytes: &[u8]) -> Begun {
 }
 
 // The end of a call, in a number.
-fn tell(end: Op) {
+fn tell(rt: &impl Print, end: Op) {
     match end {
-        Op::Refused(k) => refuse(k),
-        Op::Stopped(k) => refuse(k),
-        _ => refuse(34),
+        Op::Refused(k) => refuse(rt, k),
+        Op::Stopped(k) => refuse(rt, k),
+        _ => refuse(rt, 34),
     }
 }
 
 // A night that did not run: STATE.night is removed.
-fn give_up(state_name: &[u8], names: &[u8]) {
-    night_commit::finish(false, state_name, names, b"", b"", b"", b"", b"", b"");
+fn give_up(rt: &impl Files, state_name: &[u8], names: &[u8]) {
+    night_commit::finish(rt, false, state_name, names, b"", b"", b"", b"", b"", b"");
 }
 
 // A night that has run: its files, or STATE.night is removed.
 fn keep<'a>(
+    rt: &(impl Files + Print),
     state_name: &[u8],
     names: &'a [u8],
     night: Night,
@@ -135,13 +137,14 @@ fn keep<'a>(
 ) {
     let line = night.line();
     if !night.has_stopped() {
-        give_up(state_name, names);
-        line.print();
+        give_up(rt, state_name, names);
+        line.print(rt);
         return;
     }
     let mut machine = [0u8; 42];
     saved::save(night.machine, &mut machine);
     let end = night_commit::finish(
+        rt,
         true,
         state_name,
         names,
@@ -153,13 +156,14 @@ fn keep<'a>(
         cabinet::filled(log, night.logged),
     );
     match end {
-        Op::Placed => line.print(),
-        _ => tell(end),
+        Op::Placed => line.print(rt),
+        _ => tell(rt, end),
     }
 }
 
 // A night from a machine, and its files. The log is lent whether it is asked for or not.
 fn pass(
+    rt: &(impl Files + Print),
     state_name: &[u8],
     names: &[u8],
     image: &mut [u8],
@@ -189,6 +193,7 @@ fn pass(
         &mut spare,
     );
     keep(
+        rt,
         state_name,
         names,
         night,
@@ -201,15 +206,22 @@ fn pass(
 }
 
 // A file of the night is read, by its number.
-fn read_place(i: u8, state_name: &[u8], names: &[u8], buffer: &mut [u8]) -> Held {
+fn read_place(rt: &impl Files, i: u8, state_name: &[u8], names: &[u8], buffer: &mut [u8]) -> Held {
     let mut name = io::buffer();
     let n = night_names::place_of(i, state_name, names, &mut name);
-    read_file(&name[..n], buffer)
+    read_file(rt, &name[..n], buffer)
 }
 
 // The same into a buffer that it must fill: 0, or the number of a refusal, this one where its length is wrong.
-fn fill(i: u8, state_name: &[u8], names: &[u8], buffer: &mut [u8], wrong: u8) -> u8 {
-    let held = read_place(i, state_name, names, buffer);
+fn fill(
+    rt: &impl Files,
+    i: u8,
+    state_name: &[u8],
+    names: &[u8],
+    buffer: &mut [u8],
+    wrong: u8,
+) -> u8 {
+    let held = read_place(rt, i, state_name, names, buffer);
     match held {
         Held::Missing => 33,
         Held::Failed => 33,
@@ -224,9 +236,9 @@ fn fill(i: u8, state_name: &[u8], names: &[u8], buffer: &mut [u8], wrong: u8) ->
 }
 
 // Whether a file of the night is missing.
-fn is_missing(i: u8, state_name: &[u8], names: &[u8]) -> bool {
+fn is_missing(rt: &impl Files, i: u8, state_name: &[u8], names: &[u8]) -> bool {
     let mut byte = [0u8; 1];
-    let held = read_place(i, state_name, names, &mut byte);
+    let held = read_place(rt, i, state_name, names, &mut byte);
     match held {
         Held::Missing => true,
         _ => false,
@@ -234,107 +246,145 @@ fn is_missing(i: u8, state_name: &[u8], names: &[u8]) -> bool {
 }
 
 // The image (0) and the area (5) are read: 0, or the number of a refusal. Where the area and STATE (1) are both missing, the area stays zeros.
-fn read_memories(state_name: &[u8], names: &[u8], image: &mut [u8], area: &mut [u8]) -> u8 {
-    let refused = fill(0, state_name, names, image, 1);
+fn read_memories(
+    rt: &impl Files,
+    state_name: &[u8],
+    names: &[u8],
+    image: &mut [u8],
+    area: &mut [u8],
+) -> u8 {
+    let refused = fill(rt, 0, state_name, names, image, 1);
     if refused != 0 {
         return refused;
     }
-    if is_missing(5, state_name, names) & is_missing(1, state_name, names) {
+    if is_missing(rt, 5, state_name, names) & is_missing(rt, 1, state_name, names) {
         return 0;
     }
-    fill(5, state_name, names, area, 12)
+    fill(rt, 5, state_name, names, area, 12)
 }
 
 // A night whose session was read.
-fn start(state_name: &[u8], names: &[u8], session: &mut [u8], size: usize, terms: Terms) {
+fn start(
+    rt: &(impl Files + Print),
+    state_name: &[u8],
+    names: &[u8],
+    session: &mut [u8],
+    size: usize,
+    terms: Terms,
+) {
     let mut image = io::large_buffer();
     let mut area = [0u8; 128];
-    let refused = read_memories(state_name, names, &mut image, &mut area);
+    let refused = read_memories(rt, state_name, names, &mut image, &mut area);
     if refused != 0 {
-        give_up(state_name, names);
-        refuse(refused);
+        give_up(rt, state_name, names);
+        refuse(rt, refused);
         return;
     }
-    let begun = begin(state_name, &image, terms.r);
+    let begun = begin(rt, state_name, &image, terms.r);
     match begun {
         Begun::Refused(k) => {
-            give_up(state_name, names);
-            refuse(k);
+            give_up(rt, state_name, names);
+            refuse(rt, k);
         }
         Begun::From(m) => pass(
-            state_name, names, &mut image, &mut area, session, size, terms, m,
+            rt, state_name, names, &mut image, &mut area, session, size, terms, m,
         ),
     }
 }
 
 // A night that has STATE.night to itself.
-fn run(session_name: &[u8], state_name: &[u8], names: &[u8], terms: Terms) {
+fn run(
+    rt: &(impl Files + Print),
+    session_name: &[u8],
+    state_name: &[u8],
+    names: &[u8],
+    terms: Terms,
+) {
     let mut session = zeros();
-    let held = read_file(session_name, &mut session);
+    let held = read_file(rt, session_name, &mut session);
     match held {
-        Held::Bytes(size) => start(state_name, names, &mut session, size, terms),
+        Held::Bytes(size) => start(rt, state_name, names, &mut session, size, terms),
         _ => {
-            give_up(state_name, names);
-            refuse(33);
+            give_up(rt, state_name, names);
+            refuse(rt, 33);
         }
     }
 }
 
 // A call whose names are allowed, but for folders.
-fn call(session_name: &[u8], state_name: &[u8], names: &[u8], terms: Terms) {
-    if night_commit::has_folder(state_name, names) {
-        refuse(32);
+fn call(
+    rt: &(impl Files + Print),
+    session_name: &[u8],
+    state_name: &[u8],
+    names: &[u8],
+    terms: Terms,
+) {
+    if night_commit::has_folder(rt, state_name, names) {
+        refuse(rt, 32);
         return;
     }
-    let op = night_commit::prepare(state_name);
+    let op = night_commit::prepare(rt, state_name);
     match op {
-        Op::Run => run(session_name, state_name, names, terms),
-        _ => tell(op),
+        Op::Run => run(rt, session_name, state_name, names, terms),
+        _ => tell(rt, op),
     }
 }
 
 // The same with its log, where it has one.
-fn call_logged(session_name: &[u8], state_name: &[u8], names: &[u8], terms: Terms) {
+fn call_logged(
+    rt: &(impl Files + Env + Print),
+    session_name: &[u8],
+    state_name: &[u8],
+    names: &[u8],
+    terms: Terms,
+) {
     if terms.log == 0 {
-        call(session_name, state_name, names, terms);
+        call(rt, session_name, state_name, names, terms);
         return;
     }
     let mut log_name = io::buffer();
-    let n = os::arg(terms.log as usize, &mut log_name);
+    let n = host::argument(rt, terms.log as usize, &mut log_name);
     if !night_names::is_further(&log_name[..n], session_name, state_name, names) {
-        refuse(32);
+        refuse(rt, 32);
         return;
     }
     let mut buffer = io::buffer();
     let m = night_names::with_name(names, &log_name[..n], &mut buffer);
-    call(session_name, state_name, &buffer[..m], terms);
+    call(rt, session_name, state_name, &buffer[..m], terms);
 }
 
 // The area's name: its argument, or STATE.area.
-fn area_name(area: u8, state_name: &[u8], buffer: &mut [u8]) -> usize
+fn area_name(rt: &impl Env, area: u8, state_name: &[u8], buffer: &mut [u8]) -> usize
     ensures { IsPrefixLen result buffer.new }
 {
     if area == 0 {
         return night_arguments::joined(state_name, b".area", buffer);
     }
-    os::arg(area as usize, buffer)
+    host::argument(rt, area as usize, buffer)
 }
 
 // The same with its area.
-fn call_with_area(session_name: &[u8], state_name: &[u8], names: &[u8], terms: Terms) {
+fn call_with_area(
+    rt: &(impl Files + Env + Print),
+    session_name: &[u8],
+    state_name: &[u8],
+    names: &[u8],
+    terms: Terms,
+) {
     let mut name = io::buffer();
-    let n = area_name(terms.area, state_name, &mut name);
+    let n = area_name(rt, terms.area, state_name, &mut name);
     if !night_names::is_area(&name[..n], session_name, state_name, names) {
-        refuse(32);
+        refuse(rt, 32);
         return;
     }
     let mut buffer = io::buffer();
     let m = night_names::with_name(names, &name[..n], &mut buffer);
-    call_logged(session_name, state_name, &buffer[..m], terms);
+    call_logged(rt, session_name, state_name, &buffer[..m], terms);
 }
 
 // A call on files of these names.
 fn call_named(
+    rt: &(impl Files + Env + Print),
     image_name: &[u8],
     session_name: &[u8],
     state_name: &[u8],
@@ -342,79 +392,86 @@ fn call_named(
     terms: Terms,
 ) {
     if !night_names::are_names(image_name, session_name, state_name, output_name) {
-        refuse(32);
+        refuse(rt, 32);
         return;
     }
     let mut names = io::buffer();
     let n = night_names::record_names(image_name, output_name, &mut names);
-    call_with_area(session_name, state_name, &names[..n], terms);
+    call_with_area(rt, session_name, state_name, &names[..n], terms);
 }
 
 // The number that an argument is.
-fn number_at(i: usize) -> Number {
+fn number_at(rt: &impl Env, i: usize) -> Number {
     let mut text = [0u8; 16];
-    let n = os::arg(i, &mut text);
+    let n = host::argument(rt, i, &mut text);
     night_arguments::read_number(&text[..n])
 }
 
 // The call whose six names begin at this argument.
-fn read_names(first: u8, area: u8, log: u8) {
+fn read_names(rt: &(impl Files + Env + Print), first: u8, area: u8, log: u8) {
     let at = first as usize;
-    let n = number_at(at + 2);
-    let r = number_at(at + 3);
+    let n = number_at(rt, at + 2);
+    let r = number_at(rt, at + 3);
     let Number::Is(cycles) = n else {
-        refuse(32);
+        refuse(rt, 32);
         return;
     };
     let Number::Is(start) = r else {
-        refuse(32);
+        refuse(rt, 32);
         return;
     };
     let mut image = io::buffer();
-    let a = os::arg(at, &mut image);
+    let a = host::argument(rt, at, &mut image);
     let mut session = io::buffer();
-    let b = os::arg(at + 1, &mut session);
+    let b = host::argument(rt, at + 1, &mut session);
     let mut state = io::buffer();
-    let c = os::arg(at + 4, &mut state);
+    let c = host::argument(rt, at + 4, &mut state);
     let mut output = io::buffer();
-    let d = os::arg(at + 5, &mut output);
+    let d = host::argument(rt, at + 5, &mut output);
     let terms = Terms {
         n: cycles,
         r: start,
         area: area,
         log: log,
     };
-    call_named(&image[..a], &session[..b], &state[..c], &output[..d], terms);
+    call_named(
+        rt,
+        &image[..a],
+        &session[..b],
+        &state[..c],
+        &output[..d],
+        terms,
+    );
 }
 
 // What an argument is.
-fn kind_at(i: usize) -> u8 {
+fn kind_at(rt: &impl Env, i: usize) -> u8 {
     let mut text = io::buffer();
-    let n = os::arg(i, &mut text);
+    let n = host::argument(rt, i, &mut text);
     night_arguments::kind_of(&text[..n])
 }
 
-// What so many arguments are, the program's own name left out, as far as the buffer goes.
-fn read_kinds(count: usize, kinds: &mut [u8]) -> usize {
+// What the arguments are, the program's own name left out, as far as the buffer goes.
+fn read_kinds(rt: &impl Env, kinds: &mut [u8]) -> usize {
     let mut i = 0usize;
     while i < kinds.len() {
-        if count <= i + 1 {
+        if !host::has_argument(rt, i + 1) {
             return i;
         }
-        kinds[i] = kind_at(i + 1);
+        kinds[i] = kind_at(rt, i + 1);
         i = i + 1;
     }
     i
 }
 
-fn main() {
+fn main(rt: HostRuntime) {
     let mut kinds = [0u8; 33];
-    let n = read_kinds(os::arg_count(), &mut kinds);
+    let n = read_kinds(&rt, &mut kinds);
     let mut values = [0u8; 2];
     let first = night_arguments::read_call(cabinet::filled(&kinds, n), &mut values);
     if first == 0 {
-        refuse(32);
+        refuse(&rt, 32);
         return;
     }
-    read_names(first, values[0], values[1]);
+    read_names(&rt, first, values[0], values[1]);
 }

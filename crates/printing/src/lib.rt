@@ -1,5 +1,6 @@
 // A line of text: words, decimal and hexadecimal numbers put one after the other.
 #![tactic(auto)]
+
 ghost use Rattle.std.specs.Prelude.{◌≡◌, ◌<◌};
 ghost use Rattle.printing.specs.Printing.{empty_line, put_of, puts_of, decimal_of, hexadecimal_of};
 
@@ -12,11 +13,11 @@ pub struct Line {
     pub length: u8,
 }
 
-fn write_first(bytes: &[u8; 256], k: usize)
+fn write_first(rt: &impl Print, bytes: &[u8; 256], k: usize)
     requires { k < 256 }
 {
     let whole: &[u8] = bytes;
-    io::write_all(1, &whole[..k]);
+    host::show(rt, &whole[..k]);
 }
 
 impl Line {
@@ -73,8 +74,8 @@ impl Line {
         self.byte((v / 256) as u8).byte((v % 256) as u8)
     }
     // Written to standard output.
-    pub fn print(self) {
+    pub fn print(self, rt: &impl Print) {
         let bytes = self.bytes;
-        write_first(&bytes, self.length as usize);
+        write_first(rt, &bytes, self.length as usize);
     }
 }

@@ -1,5 +1,6 @@
 // The processor's registers, and the operations on them that make no access of their own.
 #![tactic(auto)]
+
 ghost use Rattle.std.specs.Prelude.{◌≡◌};
 ghost use Rattle.arithmetic.specs.Results.{indexed_of};
 ghost use Rattle.registers.specs.Registers.{with_a, with_b, with_x, with_sp, with_pc, with_codes, with_waiting, idles, d, with_d};

@@ -1,6 +1,7 @@
 // Replays single instructions that were seen on an independent emulator, each against `Machine::look` and `Machine::step`.
 // Standard input has the cases: tools/vectors.py says how.
 #![tactic(auto)]
+
 ghost use Rattle.std.specs.Prelude.{◌≤◌};
 
 use arithmetic::Codes;
@@ -9,6 +10,7 @@ use chip::Chip;
 use machine::{Look, Machine, Moved, Power};
 use opcodes::Instruction;
 use registers::Registers;
+use std::io::Read;
 
 // What the image holds wherever no case has a cell.
 const BACKGROUND: u8 = 0xA5;
@@ -255,22 +257,23 @@ impl Tally {
 }
 
 // Fills a part of the case, if the input has so much.
-fn read_part(case: &mut [u8], start: usize, end: usize) -> bool
+fn read_part(source: &mut impl Read, case: &mut [u8], start: usize, end: usize) -> bool
     requires { start ≤ end }
 {
     if case.len() < end {
         return false;
     }
-    io::read_full(0, &mut case[start..end]) == end - start
+    host::read_full(source, &mut case[start..end]) == end - start
 }
 
 // The next case, if the input has another whole one.
-fn read_case(case: &mut [u8]) -> bool {
-    read_part(case, 0, HEAD) && read_part(case, HEAD, HEAD + 4 * (peek(case, CELLS) as usize))
+fn read_case(source: &mut impl Read, case: &mut [u8]) -> bool {
+    read_part(source, case, 0, HEAD)
+        && read_part(source, case, HEAD, HEAD + 4 * (peek(case, CELLS) as usize))
 }
 
 // Every case, on the same machine and image. A proved loop has to end, and nothing says that the input does.
-fn replay_all(machine: Machine, image: &mut [u8]) -> Tally {
+fn replay_all(source: &mut impl Read, machine: Machine, image: &mut [u8]) -> Tally {
     let none = Difference::Nothing;
     let mut tally = Tally {
         cases: 0,
@@ -280,7 +283,7 @@ fn replay_all(machine: Machine, image: &mut [u8]) -> Tally {
     };
     let mut case = [0u8; LONGEST];
     let mut turns = u32::MAX;
-    while turns > 0 && read_case(&mut case) {
+    while turns > 0 && read_case(source, &mut case) {
         tally = tally.with(replay(machine, &case, image));
         turns -= 1;
     }
@@ -295,47 +298,47 @@ fn is_background(image: &[u8]) -> bool {
     same
 }
 
-fn name(difference: Difference) {
+fn name(rt: &impl Print, difference: Difference) {
     match difference {
-        Difference::Nothing => io::write_all(1, b"nothing"),
-        Difference::Undefined => io::write_all(1, b"undefined"),
-        Difference::Pc => io::write_all(1, b"pc"),
-        Difference::A => io::write_all(1, b"a"),
-        Difference::B => io::write_all(1, b"b"),
-        Difference::X => io::write_all(1, b"x"),
-        Difference::Sp => io::write_all(1, b"sp"),
-        Difference::Codes => io::write_all(1, b"codes"),
-        Difference::Waiting => io::write_all(1, b"waiting"),
-        Difference::Cycles => io::write_all(1, b"cycles"),
-        Difference::Counter => io::write_all(1, b"counter"),
-        Difference::Cell => io::write_all(1, b"cell"),
-        Difference::Beside => io::write_all(1, b"beside"),
+        Difference::Nothing => host::show(rt, b"nothing"),
+        Difference::Undefined => host::show(rt, b"undefined"),
+        Difference::Pc => host::show(rt, b"pc"),
+        Difference::A => host::show(rt, b"a"),
+        Difference::B => host::show(rt, b"b"),
+        Difference::X => host::show(rt, b"x"),
+        Difference::Sp => host::show(rt, b"sp"),
+        Difference::Codes => host::show(rt, b"codes"),
+        Difference::Waiting => host::show(rt, b"waiting"),
+        Difference::Cycles => host::show(rt, b"cycles"),
+        Difference::Counter => host::show(rt, b"counter"),
+        Difference::Cell => host::show(rt, b"cell"),
+        Difference::Beside => host::show(rt, b"beside"),
     };
 }
 
-fn report(tally: Tally) {
+fn report(rt: &impl Print, tally: Tally) {
     let difference = tally.difference;
-    io::write_all(1, b"cases ");
-    io::print_decimal(1, tally.cases);
-    io::write_all(1, b" differ ");
-    io::print_decimal(1, tally.differing);
-    io::write_all(1, b"\n");
+    host::show(rt, b"cases ");
+    host::show_decimal(rt, tally.cases);
+    host::show(rt, b" differ ");
+    host::show_decimal(rt, tally.differing);
+    host::show(rt, b"\n");
     if tally.differing > 0 {
-        io::write_all(1, b"first ");
-        io::print_decimal(1, tally.first);
-        io::write_all(1, b" in ");
-        name(difference);
-        io::write_all(1, b"\n");
+        host::show(rt, b"first ");
+        host::show_decimal(rt, tally.first);
+        host::show(rt, b" in ");
+        name(rt, difference);
+        host::show(rt, b"\n");
     }
 }
 
-fn main() {
+fn main(rt: HostRuntime) {
     let mut image = [BACKGROUND; 65536];
     let Power::On(machine) = machine::power_on(&image, 65536) else {
         return;
     };
-    report(replay_all(machine, &mut image));
+    report(&rt, replay_all(&mut rt.stdin(), machine, &mut image));
     if !is_background(&image) {
-        io::write_all(1, b"a byte changed that is no cell\n");
+        host::show(&rt, b"a byte changed that is no cell\n");
     }
 }

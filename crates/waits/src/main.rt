@@ -2,6 +2,7 @@
 // With `s` or `l` and then 3, 6 or 9 on standard input, one wait that nothing ends instead, passed singly or by leaping for a
 // thousand, a million or a thousand million cycles: docs/PERFORMANCE.md measures it.
 #![tactic(auto)]
+
 ghost use Rattle.std.specs.Prelude.{◌≤◌};
 
 use cabinet::Ran;
@@ -35,37 +36,37 @@ fn rom(code: &[u8], handler: &[u8]) -> [u8; 65536] {
     image
 }
 
-fn number(name: &[u8], n: u64) {
-    io::write_all(1, name);
-    io::print_decimal(1, n);
+fn number(rt: &impl Print, name: &[u8], n: u64) {
+    host::show(rt, name);
+    host::show_decimal(rt, n);
 }
 
-fn hexadecimal(name: &[u8], n: u64, digits: usize)
+fn hexadecimal(rt: &impl Print, name: &[u8], n: u64, digits: usize)
     requires { digits ≤ 16 }
 {
-    io::write_all(1, name);
-    io::print_hex(1, n, digits);
+    host::show(rt, name);
+    host::show_hexadecimal(rt, n, digits);
 }
 
-fn show(r: Ran, first: u8, second: u8) {
+fn show(rt: &impl Print, r: Ran, first: u8, second: u8) {
     let reply = r.reply;
     let c = r.machine.chip.registers;
-    number(b" stop ", reply.number() as u64);
-    number(b" cycles ", r.cycles.0 as u64);
-    number(b" instr ", r.instructions.0 as u64);
-    number(b" entries ", r.entries.0 as u64);
-    number(b" used ", r.used.0 as u64);
-    number(b" sent ", r.sent.0 as u64);
-    hexadecimal(b" pc ", c.pc as u64, 4);
-    hexadecimal(b" a ", c.a as u64, 2);
-    hexadecimal(b" b ", c.b as u64, 2);
-    hexadecimal(b" sp ", c.sp as u64, 4);
-    hexadecimal(b" cc ", c.codes.to_byte() as u64, 2);
-    hexadecimal(b" 80 ", first as u64, 2);
-    hexadecimal(b" 81 ", second as u64, 2);
+    number(rt, b" stop ", reply.number() as u64);
+    number(rt, b" cycles ", r.cycles.0 as u64);
+    number(rt, b" instr ", r.instructions.0 as u64);
+    number(rt, b" entries ", r.entries.0 as u64);
+    number(rt, b" used ", r.used.0 as u64);
+    number(rt, b" sent ", r.sent.0 as u64);
+    hexadecimal(rt, b" pc ", c.pc as u64, 4);
+    hexadecimal(rt, b" a ", c.a as u64, 2);
+    hexadecimal(rt, b" b ", c.b as u64, 2);
+    hexadecimal(rt, b" sp ", c.sp as u64, 4);
+    hexadecimal(rt, b" cc ", c.codes.to_byte() as u64, 2);
+    hexadecimal(rt, b" 80 ", first as u64, 2);
+    hexadecimal(rt, b" 81 ", second as u64, 2);
 }
 
-fn single(code: &[u8], handler: &[u8], session: &[u8], n: u32) {
+fn single(rt: &impl Print, code: &[u8], handler: &[u8], session: &[u8], n: u32) {
     let mut image = rom(code, handler);
     let mut output = [0u8; 1];
     let Power::On(m) = cabinet::power_on(&image, 65536) else {
@@ -73,12 +74,12 @@ fn single(code: &[u8], handler: &[u8], session: &[u8], n: u32) {
     };
     let mut area = [0u8; 128];
     let r = cabinet::run_single(&mut image, &mut area, m, session, n, &mut output);
-    io::write_all(1, b"  single ");
-    show(r, image[0x80], image[0x81]);
-    io::write_all(1, b"\n");
+    host::show(rt, b"  single ");
+    show(rt, r, image[0x80], image[0x81]);
+    host::show(rt, b"\n");
 }
 
-fn leaping(code: &[u8], handler: &[u8], session: &[u8], n: u32) {
+fn leaping(rt: &impl Print, code: &[u8], handler: &[u8], session: &[u8], n: u32) {
     let mut image = rom(code, handler);
     let mut output = [0u8; 1];
     let Power::On(m) = cabinet::power_on(&image, 65536) else {
@@ -86,38 +87,40 @@ fn leaping(code: &[u8], handler: &[u8], session: &[u8], n: u32) {
     };
     let mut area = [0u8; 128];
     let l = cabinet::run_leaping(&mut image, &mut area, m, session, n, &mut output);
-    io::write_all(1, b"  leaping");
+    host::show(rt, b"  leaping");
     let r = l.ran;
-    show(r, image[0x80], image[0x81]);
-    number(b" leaps ", l.leaps.0 as u64);
-    io::write_all(1, b"\n");
+    show(rt, r, image[0x80], image[0x81]);
+    number(rt, b" leaps ", l.leaps.0 as u64);
+    host::show(rt, b"\n");
 }
 
-fn both(title: &[u8], code: &[u8], handler: &[u8], session: &[u8], n: u32) {
-    io::write_all(1, title);
-    io::write_all(1, b"\n");
-    single(code, handler, session, n);
-    leaping(code, handler, session, n);
+fn both(rt: &impl Print, title: &[u8], code: &[u8], handler: &[u8], session: &[u8], n: u32) {
+    host::show(rt, title);
+    host::show(rt, b"\n");
+    single(rt, code, handler, session, n);
+    leaping(rt, code, handler, session, n);
 }
 
-fn limits() {
+fn limits(rt: &impl Print) {
     let wait = b"\x8E\x00\xFF\x3E";
-    both(b"a wait with no end", wait, b"\x3B", b"", 1000);
-    both(b"N inside a wait", wait, b"\x3B", b"", 50);
-    both(b"N 0", wait, b"\x3B", b"", 0);
+    both(rt, b"a wait with no end", wait, b"\x3B", b"", 1000);
+    both(rt, b"N inside a wait", wait, b"\x3B", b"", 50);
+    both(rt, b"N 0", wait, b"\x3B", b"", 0);
     both(
+        rt,
         b"a record past the end",
         wait,
         b"\x3B",
         b"\x06\x00\x04\x00\x2C\x01\x00\x00",
         200,
     );
-    both(b"an undefined opcode", b"\x00", b"\x3B", b"", 10);
+    both(rt, b"an undefined opcode", b"\x00", b"\x3B", b"", 10);
 }
 
-fn timers() {
+fn timers(rt: &impl Print) {
     let handler = b"\x96\x08\xDC\x0B\xDD\x0B\x3B";
     both(
+        rt,
         b"an enabled compare",
         b"\x8E\x00\xFF\x86\x08\x97\x08\xCC\x00\x80\xDD\x0B\x0E\x3E\x20\xFE",
         handler,
@@ -125,6 +128,7 @@ fn timers() {
         1000,
     );
     both(
+        rt,
         b"a masked compare",
         b"\x8E\x00\xFF\x86\x00\x97\x08\xCC\x00\x80\xDD\x0B\x0E\x3E\x20\xFE",
         handler,
@@ -133,9 +137,10 @@ fn timers() {
     );
 }
 
-fn records() {
+fn records(rt: &impl Print) {
     let wait = b"\x8E\x00\xFF\x3E\x20\xFE";
     both(
+        rt,
         b"IRQ1 low, then high",
         b"\x8E\x00\xFF\x0E\x3E\x20\xFE",
         b"\x3B",
@@ -143,6 +148,7 @@ fn records() {
         400,
     );
     both(
+        rt,
         b"NMI with I set",
         wait,
         b"\x3B",
@@ -150,6 +156,7 @@ fn records() {
         120,
     );
     both(
+        rt,
         b"NMI while WAI stacks",
         wait,
         b"\x3B",
@@ -157,6 +164,7 @@ fn records() {
         30,
     );
     both(
+        rt,
         b"a reset in a wait",
         wait,
         b"\x3B",
@@ -164,6 +172,7 @@ fn records() {
         200,
     );
     both(
+        rt,
         b"two records at one time",
         wait,
         b"\x3B",
@@ -172,9 +181,10 @@ fn records() {
     );
 }
 
-fn serials() {
+fn serials(rt: &impl Print) {
     let handler = b"\x96\x11\xD6\x12\x97\x80\xD7\x81\x3B";
     both(
+        rt,
         b"a received byte",
         b"\x8E\x00\xFF\x86\x18\x97\x11\x0E\x3E\x20\xFE",
         handler,
@@ -182,6 +192,7 @@ fn serials() {
         1000,
     );
     both(
+        rt,
         b"the peacock's tail: two bytes in one wait",
         b"\x8E\x00\xFF\x86\x08\x97\x11\x3E\x20\xFE",
         handler,
@@ -189,6 +200,7 @@ fn serials() {
         500,
     );
     both(
+        rt,
         b"the output full in a wait",
         b"\x8E\x00\xFF\x86\x02\x97\x11\x96\x11\x97\x13\x96\x11\x97\x13\x3E",
         handler,
@@ -197,11 +209,11 @@ fn serials() {
     );
 }
 
-fn cases() {
-    limits();
-    timers();
-    records();
-    serials();
+fn cases(rt: &impl Print) {
+    limits(rt);
+    timers(rt);
+    records(rt);
+    serials(rt);
 }
 
 fn limit(digit: u8) -> u32 {
@@ -214,21 +226,21 @@ fn limit(digit: u8) -> u32 {
 }
 
 // The first case, by one run alone and with another limit.
-fn measured(run: u8, digit: u8) {
+fn measured(rt: &impl Print, run: u8, digit: u8) {
     let wait = b"\x8E\x00\xFF\x3E";
     if run == b'l' {
-        leaping(wait, b"\x3B", b"", limit(digit));
+        leaping(rt, wait, b"\x3B", b"", limit(digit));
     } else {
-        single(wait, b"\x3B", b"", limit(digit));
+        single(rt, wait, b"\x3B", b"", limit(digit));
     }
 }
 
-fn main() {
+fn main(rt: HostRuntime) {
     let mut input = [0u8; 2];
-    let n = io::read_full(0, &mut input);
+    let n = host::read_full(&mut rt.stdin(), &mut input);
     if n == 0 {
-        cases();
+        cases(&rt);
     } else {
-        measured(input[0], input[1]);
+        measured(&rt, input[0], input[1]);
     }
 }

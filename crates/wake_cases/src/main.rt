@@ -1,5 +1,6 @@
 // The wake log in single and leaping runs side by side: docs/CASES.md works the expected lines from 02 and its readings.
 #![tactic(auto)]
+
 ghost use Rattle.io.specs.Counts.{IsPrefixLen};
 
 use bits::Flag;
@@ -130,58 +131,58 @@ fn started(m: Machine, s: Start) -> Machine {
     with_registers(serial, s)
 }
 
-fn number(name: &[u8], n: u64) {
-    io::write_all(1, name);
-    io::print_decimal(1, n);
+fn number(rt: &impl Print, name: &[u8], n: u64) {
+    host::show(rt, name);
+    host::show_decimal(rt, n);
 }
 
-fn yes(name: &[u8], b: bool) {
-    io::write_all(1, name);
+fn yes(rt: &impl Print, name: &[u8], b: bool) {
+    host::show(rt, name);
     if b {
-        io::write_all(1, b"1");
+        host::show(rt, b"1");
         return;
     }
-    io::write_all(1, b"0");
+    host::show(rt, b"0");
 }
 
-fn show_byte(v: u8) {
-    io::print_hex(1, v as u64, 2);
+fn show_byte(rt: &impl Print, v: u8) {
+    host::show_hexadecimal(rt, v as u64, 2);
 }
 
-fn show_bytes(log: &[u8]) {
+fn show_bytes(rt: &impl Print, log: &[u8]) {
     let mut i = 0usize;
     while i < log.len() {
-        show_byte(log[i]);
+        show_byte(rt, log[i]);
         i = i + 1;
     }
 }
 
-fn show_counts(r: Ran) {
+fn show_counts(rt: &impl Print, r: Ran) {
     let reply = r.reply;
-    number(b" stop ", reply.number() as u64);
-    number(b" cycles ", r.cycles.0 as u64);
-    number(b" instr ", r.instructions.0 as u64);
-    number(b" entries ", r.entries.0 as u64);
-    number(b" used ", r.used.0 as u64);
-    number(b" sent ", r.sent.0 as u64);
+    number(rt, b" stop ", reply.number() as u64);
+    number(rt, b" cycles ", r.cycles.0 as u64);
+    number(rt, b" instr ", r.instructions.0 as u64);
+    number(rt, b" entries ", r.entries.0 as u64);
+    number(rt, b" used ", r.used.0 as u64);
+    number(rt, b" sent ", r.sent.0 as u64);
 }
 
-fn show_machine(m: Machine) {
-    io::write_all(1, b" pc ");
-    io::print_hex(1, m.chip.registers.pc as u64, 4);
-    io::write_all(1, b" sp ");
-    io::print_hex(1, m.chip.registers.sp as u64, 4);
-    yes(b" nmi ", m.nmi);
-    yes(b" waiting ", m.chip.registers.waiting);
-    yes(b" ocf ", m.chip.bus.timer.ocf.set);
+fn show_machine(rt: &impl Print, m: Machine) {
+    host::show(rt, b" pc ");
+    host::show_hexadecimal(rt, m.chip.registers.pc as u64, 4);
+    host::show(rt, b" sp ");
+    host::show_hexadecimal(rt, m.chip.registers.sp as u64, 4);
+    yes(rt, b" nmi ", m.nmi);
+    yes(rt, b" waiting ", m.chip.registers.waiting);
+    yes(rt, b" ocf ", m.chip.bus.timer.ocf.set);
 }
 
-fn show(r: Ran, log: &[u8]) {
+fn show(rt: &impl Print, r: Ran, log: &[u8]) {
     let m = r.machine;
-    show_counts(r);
-    show_machine(m);
-    io::write_all(1, b" log ");
-    show_bytes(log);
+    show_counts(rt, r);
+    show_machine(rt, m);
+    host::show(rt, b" log ");
+    show_bytes(rt, log);
 }
 
 // How much of a buffer is lent.
@@ -194,7 +195,15 @@ fn lent(room: usize, buffer: &[u8]) -> usize
     buffer.len()
 }
 
-fn single(opcode: u8, session: &[u8], s: Start, room: Room, output: &mut [u8], log: &mut [u8]) {
+fn single(
+    rt: &impl Print,
+    opcode: u8,
+    session: &[u8],
+    s: Start,
+    room: Room,
+    output: &mut [u8],
+    log: &mut [u8],
+) {
     let mut image = rom(opcode);
     let Power::On(m) = cabinet::power_on(&image, 65536) else {
         return;
@@ -204,12 +213,20 @@ fn single(opcode: u8, session: &[u8], s: Start, room: Room, output: &mut [u8], l
     let r = cabinet::watch_single(
         &mut image, &mut area, start, session, room.n, room.watch, output, log,
     );
-    io::write_all(1, b"  single ");
-    show(r, &log[..]);
-    io::write_all(1, b"\n");
+    host::show(rt, b"  single ");
+    show(rt, r, &log[..]);
+    host::show(rt, b"\n");
 }
 
-fn leaping(opcode: u8, session: &[u8], s: Start, room: Room, output: &mut [u8], log: &mut [u8]) {
+fn leaping(
+    rt: &impl Print,
+    opcode: u8,
+    session: &[u8],
+    s: Start,
+    room: Room,
+    output: &mut [u8],
+    log: &mut [u8],
+) {
     let mut image = rom(opcode);
     let Power::On(m) = cabinet::power_on(&image, 65536) else {
         return;
@@ -220,18 +237,19 @@ fn leaping(opcode: u8, session: &[u8], s: Start, room: Room, output: &mut [u8], 
         &mut image, &mut area, start, session, room.n, room.watch, output, log,
     );
     let r = l.ran;
-    io::write_all(1, b"  leaping");
-    show(r, &log[..]);
-    number(b" leaps ", l.leaps.0 as u64);
-    io::write_all(1, b"\n");
+    host::show(rt, b"  leaping");
+    show(rt, r, &log[..]);
+    number(rt, b" leaps ", l.leaps.0 as u64);
+    host::show(rt, b"\n");
 }
 
-fn singly(opcode: u8, session: &[u8], s: Start, room: Room) {
+fn singly(rt: &impl Print, opcode: u8, session: &[u8], s: Start, room: Room) {
     let mut log = [0xEEu8; 24];
     let mut output = [0u8; 1];
     let long = lent(room.log, &log);
     let sent = lent(room.output, &output);
     single(
+        rt,
         opcode,
         session,
         s,
@@ -241,12 +259,13 @@ fn singly(opcode: u8, session: &[u8], s: Start, room: Room) {
     );
 }
 
-fn by_leaps(opcode: u8, session: &[u8], s: Start, room: Room) {
+fn by_leaps(rt: &impl Print, opcode: u8, session: &[u8], s: Start, room: Room) {
     let mut log = [0xEEu8; 24];
     let mut output = [0u8; 1];
     let long = lent(room.log, &log);
     let sent = lent(room.output, &output);
     leaping(
+        rt,
         opcode,
         session,
         s,
@@ -256,11 +275,11 @@ fn by_leaps(opcode: u8, session: &[u8], s: Start, room: Room) {
     );
 }
 
-fn both(title: &[u8], opcode: u8, session: &[u8], s: Start, room: Room) {
-    io::write_all(1, title);
-    io::write_all(1, b"\n");
-    singly(opcode, session, s, room);
-    by_leaps(opcode, session, s, room);
+fn both(rt: &impl Print, title: &[u8], opcode: u8, session: &[u8], s: Start, room: Room) {
+    host::show(rt, title);
+    host::show(rt, b"\n");
+    singly(rt, opcode, session, s, room);
+    by_leaps(rt, opcode, session, s, room);
 }
 
 fn holding(causes: u8, masked: bool) -> Start {
@@ -285,25 +304,25 @@ fn logged(n: u32, log: usize) -> Room {
     }
 }
 
-fn at_once(title: &[u8], causes: u8, masked: bool) {
-    both(title, 0x01, b"", holding(causes, masked), logged(20, 8));
+fn at_once(rt: &impl Print, title: &[u8], causes: u8, masked: bool) {
+    both(rt, title, 0x01, b"", holding(causes, masked), logged(20, 8));
 }
 
-fn alone() {
-    at_once(b"NMI", 0x01, false);
-    at_once(b"IRQ1", 0x02, false);
-    at_once(b"ICF", 0x04, false);
-    at_once(b"OCF", 0x08, false);
-    at_once(b"TOF", 0x10, false);
-    at_once(b"serial", 0x20, false);
+fn alone(rt: &impl Print) {
+    at_once(rt, b"NMI", 0x01, false);
+    at_once(rt, b"IRQ1", 0x02, false);
+    at_once(rt, b"ICF", 0x04, false);
+    at_once(rt, b"OCF", 0x08, false);
+    at_once(rt, b"TOF", 0x10, false);
+    at_once(rt, b"serial", 0x20, false);
 }
 
-fn together() {
-    at_once(b"all six", 0x3F, false);
-    at_once(b"all six with I set", 0x3F, true);
-    at_once(b"all but NMI", 0x3E, false);
-    at_once(b"TOF and serial", 0x30, false);
-    at_once(b"all but NMI with I set", 0x3E, true);
+fn together(rt: &impl Print) {
+    at_once(rt, b"all six", 0x3F, false);
+    at_once(rt, b"all six with I set", 0x3F, true);
+    at_once(rt, b"all but NMI", 0x3E, false);
+    at_once(rt, b"TOF and serial", 0x30, false);
+    at_once(rt, b"all but NMI with I set", 0x3E, true);
 }
 
 // IRQ1 becomes low at 100.
@@ -327,9 +346,10 @@ fn on_registers(causes: u8) -> Start {
     s
 }
 
-fn moments() {
-    both(b"out of a wait", 0x01, &LOW, waiting(), logged(110, 8));
+fn moments(rt: &impl Print) {
+    both(rt, b"out of a wait", 0x01, &LOW, waiting(), logged(110, 8));
     both(
+        rt,
         b"TDRE set in the same boundary",
         0x01,
         b"",
@@ -337,6 +357,7 @@ fn moments() {
         logged(20, 8),
     );
     both(
+        rt,
         b"the stack on the registers clears OCF",
         0x01,
         b"",
@@ -344,6 +365,7 @@ fn moments() {
         logged(20, 8),
     );
     both(
+        rt,
         b"the stack clears the cause itself",
         0x01,
         b"",
@@ -351,6 +373,7 @@ fn moments() {
         logged(20, 8),
     );
     both(
+        rt,
         b"SWI is no entry",
         0x3F,
         b"",
@@ -362,14 +385,28 @@ fn moments() {
 // NMI at 30.
 const AGAIN: [u8; 8] = *b"\x06\x00\x04\x00\x1E\x00\x00\x00";
 
-fn rooms() {
+fn rooms(rt: &impl Print) {
     let nmi = holding(0x01, false);
-    both(b"no room", 0x01, b"", nmi, logged(20, 0));
-    both(b"room of 7 bytes", 0x01, b"", nmi, logged(20, 7));
-    both(b"room of 15 bytes", 0x01, b"", nmi, logged(20, 15));
-    both(b"full, and a second NMI", 0x01, &AGAIN, nmi, logged(100, 8));
-    both(b"room for both", 0x01, &AGAIN, nmi, logged(100, 16));
-    both(b"full in a wait", 0x01, &LOW, waiting(), logged(1000, 0));
+    both(rt, b"no room", 0x01, b"", nmi, logged(20, 0));
+    both(rt, b"room of 7 bytes", 0x01, b"", nmi, logged(20, 7));
+    both(rt, b"room of 15 bytes", 0x01, b"", nmi, logged(20, 15));
+    both(
+        rt,
+        b"full, and a second NMI",
+        0x01,
+        &AGAIN,
+        nmi,
+        logged(100, 8),
+    );
+    both(rt, b"room for both", 0x01, &AGAIN, nmi, logged(100, 16));
+    both(
+        rt,
+        b"full in a wait",
+        0x01,
+        &LOW,
+        waiting(),
+        logged(1000, 0),
+    );
 }
 
 // No room for a row nor for a byte to be sent.
@@ -379,12 +416,12 @@ fn no_room() -> Room {
     r
 }
 
-fn orders() {
+fn orders(rt: &impl Print) {
     let nmi = holding(0x01, false);
-    both(b"9 before 11", 0x01, b"", sending(0x01), no_room());
-    both(b"0 before 11", 0x01, b"", nmi, logged(0, 0));
-    both(b"11 before 8", 0x00, b"", nmi, logged(20, 0));
-    both(b"3 before all", 0x01, b"", nmi, logged(1000000001, 8));
+    both(rt, b"9 before 11", 0x01, b"", sending(0x01), no_room());
+    both(rt, b"0 before 11", 0x01, b"", nmi, logged(0, 0));
+    both(rt, b"11 before 8", 0x00, b"", nmi, logged(20, 0));
+    both(rt, b"3 before all", 0x01, b"", nmi, logged(1000000001, 8));
 }
 
 fn unlogged(log: usize) -> Room {
@@ -403,11 +440,12 @@ fn later(n: u32, since: u32) -> Room {
     r
 }
 
-fn watches() {
+fn watches(rt: &impl Print) {
     let nmi = holding(0x01, false);
-    both(b"not asked for", 0x01, b"", nmi, unlogged(8));
-    both(b"not asked for, no room", 0x01, b"", nmi, unlogged(0));
+    both(rt, b"not asked for", 0x01, b"", nmi, unlogged(8));
+    both(rt, b"not asked for, no room", 0x01, b"", nmi, unlogged(0));
     both(
+        rt,
         b"after 1000000000 cycles",
         0x01,
         b"",
@@ -415,6 +453,7 @@ fn watches() {
         later(20, 1000000000),
     );
     both(
+        rt,
         b"round at 2^32",
         0x01,
         &LOW,
@@ -423,11 +462,11 @@ fn watches() {
     );
 }
 
-fn main() {
-    alone();
-    together();
-    moments();
-    rooms();
-    orders();
-    watches();
+fn main(rt: HostRuntime) {
+    alone(&rt);
+    together(&rt);
+    moments(&rt);
+    rooms(&rt);
+    orders(&rt);
+    watches(&rt);
 }

@@ -1,9 +1,13 @@
 // The wakes program: LOG. It prints a line for each row of a wake log, or one refusal.
 #![tactic(auto)]
+
 ghost use Rattle.std.specs.Prelude.{◌≡◌, length};
 
-fn refuse(number: u8) {
-    lines::refused(number).text(b"\n").print();
+use host::Rest;
+use std::fs::Files;
+
+fn refuse(rt: &impl Print, number: u8) {
+    lines::refused(number).text(b"\n").print(rt);
 }
 
 // 1,048,576 zeros, for a log.
@@ -14,66 +18,62 @@ fn log_buffer() -> [u8; 1048576]
 }
 
 // Of an open file of which so many bytes were read: 0, or the number of a refusal.
-fn verdict(fd: i32, count: usize) -> u8 {
-    let mut byte = [0u8; 1];
-    let got = libc::read(fd, &mut byte);
-    if got < 0 {
-        return 33;
+fn verdict(follows: Rest, count: usize) -> u8 {
+    match follows {
+        Rest::Failed => 33,
+        Rest::Something => 37,
+        Rest::Nothing => {
+            if count % 8 != 0 {
+                return 37;
+            }
+            0
+        }
     }
-    if got > 0 {
-        return 37;
-    }
-    if count % 8 != 0 {
-        return 37;
-    }
-    0
 }
 
-fn print_rows(log: &[u8], rows: u32) {
+fn print_rows(rt: &impl Print, log: &[u8], rows: u32) {
     let mut k = 0;
     while k < rows {
-        wakes_lines::wake_line(wake_log::read_row(log, k)).print();
+        wakes_lines::wake_line(wake_log::read_row(log, k)).print(rt);
         k = k + 1;
     }
 }
 
 // The whole log is tested before its first line is printed.
-fn tell(log: &[u8], rows: u32) {
+fn tell(rt: &impl Print, log: &[u8], rows: u32) {
     let bad = wakes_lines::first_bad(log, rows);
     if bad < rows {
-        wakes_lines::bad_row_line(bad).print();
+        wakes_lines::bad_row_line(bad).print(rt);
         return;
     }
-    print_rows(log, rows);
+    print_rows(rt, log, rows);
 }
 
-fn read_log(name: &[u8]) {
-    let fd = os::open_read(name);
-    if fd < 0 {
-        refuse(33);
+fn read_log(rt: &(impl Files + Print), name: &[u8]) {
+    let Ok(mut file) = host::open(rt, name) else {
+        refuse(rt, 33);
         return;
-    }
+    };
     let mut log = log_buffer();
-    let count = io::read_full(fd, &mut log);
-    let number = verdict(fd, count);
-    libc::close(fd);
+    let count = host::read_full(&mut file, &mut log);
+    let number = verdict(host::what_follows(&mut file), count);
     if number != 0 {
-        refuse(number);
+        refuse(rt, number);
         return;
     }
-    tell(&log, (count / 8) as u32);
+    tell(rt, &log, (count / 8) as u32);
 }
 
-fn main() {
-    if os::arg_count() != 2 {
-        refuse(32);
+fn main(rt: HostRuntime) {
+    if !host::has_argument(&rt, 1) | host::has_argument(&rt, 2) {
+        refuse(&rt, 32);
         return;
     }
     let mut name = io::buffer();
-    let n = os::arg(1, &mut name);
+    let n = host::argument(&rt, 1, &mut name);
     if n == 0 {
-        refuse(32);
+        refuse(&rt, 32);
         return;
     }
-    read_log(&name[..n]);
+    read_log(&rt, &name[..n]);
 }

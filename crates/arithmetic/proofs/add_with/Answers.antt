@@ -1,6 +1,5 @@
-use Rattle.std.proofs.Common.{arith, rules}
 use mathlib.Core.Bool.{xor}
-use Rattle.arithmetic.proofs.Small.{small, counts}
+use Rattle.arithmetic.proofs.Small.{counts}
 use Rattle.arithmetic.proofs.add_with.Goals as goal
 
 pub returns : goal.returns

@@ -1,20 +1,18 @@
-use Rattle.std.proofs.Common.{◌≡◌, ◌%◌, ◌||◌, ltb, ⊎_elim, arith, rules}
+-- `arithmetic::daa` meets its contract: the low correction and the high one, each by A and the codes at the start.
+use Rattle.std.proofs.Common.{◌≡◌, ◌%◌, ◌||◌, ltb, arith}
 use Rattle.bits.specs.Bits.{weight}
 use Rattle.arithmetic.specs.Results.{adjusted_of, daa_of}
 use Rattle.arithmetic.proofs.daa.Goals as goal
-
--- the low correction and the high one, each by A and the codes at the start
-low : (c : goal.Joined-six) → let s = c.args in c.if-six.low-correction ≡ weight (ltb 9 (s.a % 16) || s.k.h) 0x06
-low c = ⊎_elim (λ w. rw w.0.taken w.1) (λ w. rw w.0.left w.1) c.if-six.branch
-
-high : (c : goal.Joined-sixty) → let s = c.args in c.if-sixty.high-correction ≡ weight (ltb 0x99 s.a || s.k.c) 0x60
-high c = ⊎_elim (λ w. rw w.0.taken w.1) (λ w. rw w.0.left w.1) c.if-sixty.branch
-
--- one after the other they come to both at once
-both : (c : goal.After-wrapping_add_u8-high_corrected) → let s = c.args in
-    c.wrapping_add_u8-high_corrected.result ≡ adjusted_of s.a (ltb 9 (s.a % 16) || s.k.h) (ltb 0x99 s.a || s.k.c)
-both c = omega (arith, low c, c.wrapping_add_u8-low_corrected.ensures, high c, c.wrapping_add_u8-high_corrected.ensures)
+use Rattle.arithmetic.proofs.daa.Goals.{then-six, else-six, then-sixty, else-sixty}
 
 pub returns : goal.returns
 unfolding daa_of
-returns c = rw (← both c) c.byte_after.ensures
+returns c =
+    let s = c.args in
+    let low : c.if-six.low_correction ≡ weight (ltb 9 (s.a % 16) || s.k.h) 0x06 =
+    elim c.if-six.branch [ then-six w ↦ rw w.if-six.true w.low_correction-is | else-six w ↦ rw w.if-six.false w.low_correction-is ] in
+    let high : c.if-sixty.high_correction ≡ weight (ltb 0x99 s.a || s.k.c) 0x60 =
+    elim c.if-sixty.branch [ then-sixty w ↦ rw w.if-sixty.true w.high_correction-is | else-sixty w ↦ rw w.if-sixty.false w.high_correction-is ] in
+    let both : c.wrapping_add_u8-high_corrected.result ≡ adjusted_of s.a (ltb 9 (s.a % 16) || s.k.h) (ltb 0x99 s.a || s.k.c) =
+    omega (arith, low, high) in
+    rw (← both) c.byte_after.ensures

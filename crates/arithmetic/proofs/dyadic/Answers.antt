@@ -1,4 +1,3 @@
-use Rattle.std.proofs.Common.{rules}
 use Rattle.arithmetic.specs.Results.{dyadic_of}
 use Rattle.arithmetic.proofs.dyadic.Goals as goal
 

@@ -1,4 +1,4 @@
-use Rattle.std.proofs.Common.{div-one, rules}
+use Rattle.std.proofs.Common.{div-one}
 use Rattle.arithmetic.specs.Results.{lsr16_of}
 use Rattle.arithmetic.proofs.lsr16.Goals as goal
 

@@ -1,4 +1,3 @@
-use Rattle.std.proofs.Common.{rules}
 use Rattle.arithmetic.specs.Results.{monadic_of}
 use Rattle.arithmetic.proofs.monadic.Goals as goal
 

@@ -1,4 +1,4 @@
-use Rattle.std.proofs.Common.{◌≡◌, ◌+◌, ◌-◌, ◌%◌, arith, rules}
+use Rattle.std.proofs.Common.{◌≡◌, ◌+◌, ◌-◌, ◌%◌, arith}
 use mathlib.Core.Bool.{xor}
 use Rattle.arithmetic.specs.Results.{sub16_of}
 use Rattle.arithmetic.proofs.sub16.Goals as goal

@@ -1,4 +1,3 @@
-use Rattle.std.proofs.Common.{rules}
 use mathlib.Core.Bool.{xor}
 use Rattle.arithmetic.specs.Branches.{taken_of}
 use Rattle.arithmetic.proofs.taken.Goals as goal

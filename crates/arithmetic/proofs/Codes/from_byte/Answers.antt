@@ -1,4 +1,3 @@
-use borrow.Author.Rules.{rules}
 use Rattle.arithmetic.specs.Codes.{codes_of}
 use Rattle.std.proofs.Common.{div-one}
 use Rattle.arithmetic.proofs.Codes.from_byte.Goals as goal

@@ -1,5 +1,4 @@
 -- `Line::byte` meets its contract: the two digits of a byte. Assumes nothing.
-use borrow.Author.Rules.{rules}
 use native.Mathlib.Omega.{arith}
 use Rattle.printing.proofs.Laws.{puts_byte}
 use Rattle.printing.proofs.Line.byte.Goals as goal

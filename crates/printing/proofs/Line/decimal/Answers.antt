@@ -1,5 +1,4 @@
 -- `Line::decimal` meets its contract: the kit's fewest digits are the definition's. Assumes nothing.
-use borrow.Author.Rules.{rules}
 use native.Mathlib.Omega.{arith}
 use mathlib.Core.Path.{ap, ◌∙◌}
 use Rattle.printing.specs.Printing.{puts_of}
@@ -7,6 +6,6 @@ use Rattle.printing.proofs.Laws.{decimal_digits}
 use Rattle.printing.proofs.Line.decimal.Goals as goal
 
 pub returns : goal.returns
-returns c = let told = c.decimal-k.ensures.1 in
+returns c = let told = c.decimal-k.ensures in
     c.text.ensures
-    ∙ ap (λ t. puts_of c.args.self t) (told.1 ∙ decimal_digits _ _ (omega arith) told.0)
+    ∙ ap (λ t. puts_of c.args.self t) (told.digits ∙ decimal_digits _ _ (omega arith) told.len)

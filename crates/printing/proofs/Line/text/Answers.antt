@@ -1,10 +1,6 @@
 -- `Line::text` meets its contract: each turn puts one byte more. Assumes nothing.
-use borrow.Author.Rules.{rules}
-use Prim.Native.Nat.{◌-◌, ◌≤◌}
 use native.Mathlib.Omega.{arith}
-use mathlib.Core.Path.{◌≡◌, refl, sym, ◌∙◌}
-use lib.ListN.{length, drop}
-use Rattle.printing.specs.Printing.{puts_of}
+use mathlib.Core.Path.{sym, ◌∙◌}
 use Rattle.printing.proofs.Laws.{puts_turn, puts_all}
 use Rattle.printing.proofs.Line.text.Goals as goal
 

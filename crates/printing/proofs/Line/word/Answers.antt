@@ -1,5 +1,4 @@
 -- `Line::word` meets its contract: the four digits are those of its two bytes. Assumes nothing.
-use borrow.Author.Rules.{rules}
 use mathlib.Core.Path.{ap, ◌∙◌}
 use Rattle.printing.specs.Printing.{puts_of}
 use Rattle.printing.proofs.Laws.{puts_then, word_digits}

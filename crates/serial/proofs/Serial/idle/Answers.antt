@@ -1,4 +1,3 @@
-use borrow.Author.Rules.{rules}
 use mathlib.Core.Path.{refl}
 use Rattle.serial.specs.Serial.{idle_line}
 use Rattle.serial.proofs.Serial.idle.Goals as goal

@@ -1,4 +1,3 @@
-use borrow.Author.Rules.{rules}
 use Rattle.serial.specs.Serial.{serial_ranges}
 use Rattle.serial.proofs.Serial.in_ranges.Goals as goal
 

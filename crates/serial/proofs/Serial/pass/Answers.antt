@@ -1,4 +1,3 @@
-use borrow.Author.Rules.{rules}
 use mathlib.Core.Path.{sym}
 use Rattle.serial.proofs.Cycles.{ticks_closed}
 use Rattle.serial.proofs.Serial.pass.Goals as goal

@@ -1,4 +1,3 @@
-use borrow.Author.Rules.{rules}
 use Rattle.serial.specs.Serial.{read_serial}
 use Rattle.serial.proofs.Serial.read.Goals as goal
 

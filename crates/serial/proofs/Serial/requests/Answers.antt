@@ -1,4 +1,3 @@
-use borrow.Author.Rules.{rules}
 use mathlib.Core.Path.{refl}
 use Rattle.serial.specs.Serial.{serial_request}
 use Rattle.serial.proofs.Serial.requests.Goals as goal

@@ -1,4 +1,3 @@
-use borrow.Author.Rules.{rules}
 use Rattle.serial.specs.Serial.{reset_serial}
 use Rattle.serial.proofs.Serial.reset.Goals as goal
 

@@ -1,7 +1,4 @@
-use borrow.Author.Rules.{rules}
 use Rattle.serial.specs.Serial.{sent_of}
-use native.Mathlib.Omega.{arith}
-use Rattle.serial.proofs.Cycles.{ten_bits}
 use Rattle.serial.proofs.Serial.send.Goals as goal
 
 pub returns : goal.returns

@@ -1,4 +1,3 @@
-use borrow.Author.Rules.{rules}
 use mathlib.Core.Path.{refl}
 use Rattle.serial.specs.Serial.{wants_to_send}
 use Rattle.serial.proofs.Serial.wants_to_send.Goals as goal

@@ -1,4 +1,3 @@
-use borrow.Author.Rules.{rules}
 use Rattle.serial.specs.Serial.{write_serial}
 use Rattle.serial.proofs.Serial.write.Goals as goal
 
