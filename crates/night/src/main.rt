@@ -181,6 +181,7 @@ fn pass(
         since: Cycles(0),
     };
     let night = night_slices::run_night(
+        rt,
         image,
         area,
         m,

@@ -1,5 +1,6 @@
 // What a program makes of its arguments: options and names, a number in decimal, and a name with an ending.
 #![tactic(auto)]
+
 ghost use Rattle.std.specs.Prelude.{◌-◌, ◌≤◌, cond, ◌≡◌, length, take, set};
 ghost use Rattle.io.specs.Counts.{IsPrefixLen};
 ghost use Rattle.night_arguments.specs.Arguments.{told_number, with_digit, number_of, same_of, joined_of};

@@ -45,6 +45,7 @@ fn show_night(
     let power = cabinet::power_on(&image[..], 65536);
     match power {
         Power::On(m) => night_slices::run_night(
+            rt,
             image,
             &mut area,
             m,
@@ -134,7 +135,7 @@ fn show_watched(
         since: Cycles(0),
     };
     let night = night_slices::run_night(
-        image, area, m, session, size, n, watch, &mut none, log, &mut spare,
+        rt, image, area, m, session, size, n, watch, &mut none, log, &mut spare,
     );
     night.line().print(rt);
     show_bytes(rt, b"rest ", cabinet::filled(&session[..], night.length));

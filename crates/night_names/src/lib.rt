@@ -1,6 +1,7 @@
 // The names of a night's files: which names a call may have, and those that a night commits along, by which a later call can put its files in
 // place (docs/NIGHT.md).
 #![tactic(auto)]
+
 ghost use Rattle.std.specs.Prelude.{◌+◌, ◌-◌, ◌≤◌, ◌≡◌, length, take, drop};
 ghost use Rattle.io.specs.Counts.{IsPrefixLen};
 ghost use Rattle.night_names.specs.Names.{begins_at, last_at, is_place, is_beside, is_with, is_of_state, is_read, are_names, parts_of, with_name, names_of, name_at};

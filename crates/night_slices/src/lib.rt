@@ -1,5 +1,6 @@
 // A night: a long run of the leaping kind in slices, each with the rest of the session that the one before left.
 #![tactic(auto)]
+
 ghost use Rattle.std.specs.Prelude.{◌≡◌, ◌+◌, ◌-◌, ◌^◌, ◌<◌, ◌≤◌, min, [], length, take, ◌==◌};
 ghost use Rattle.replies.specs.Replies.{told_reply, stops};
 ghost use Rattle.boundary.specs.World.{lent, lending, watching, logged_bytes};
@@ -109,11 +110,11 @@ fn slice_line(number: u64, leapt: Leapt) -> Line
 }
 
 // A slice's line is printed, where its run was not refused.
-fn announce(number: u64, leapt: Leapt) {
+fn announce(rt: &impl Print, number: u64, leapt: Leapt) {
     let ran = leapt.ran;
     let reply = ran.reply;
     if reply.is_stop() {
-        slice_line(number, leapt).print();
+        slice_line(number, leapt).print(rt);
     }
 }
 
@@ -284,6 +285,7 @@ impl Night {
 
 // One slice. Its line is printed.
 fn slice(
+    rt: &impl Print,
     image: &mut [u8],
     area: &mut [u8],
     session: &mut [u8],
@@ -313,7 +315,7 @@ fn slice(
         &mut output[sent..],
         &mut log[logged..],
     );
-    announce(wrapping_add_u64(night.slices.0, 1), leapt);
+    announce(rt, wrapping_add_u64(night.slices.0, 1), leapt);
     let ran = leapt.ran;
     let reply = ran.reply;
     let kept = keep(session, size, reply, ran.used, ran.cycles, spare);
@@ -323,6 +325,7 @@ fn slice(
 // A night of `n` cycles: the first `size` bytes of `session` are its session, and are its rest afterwards. Where the log is asked for,
 // all slices log into `log`, one after another. Each slice's line is printed.
 pub fn run_night(
+    rt: &impl Print,
     image: &mut [u8],
     area: &mut [u8],
     m: Machine,
@@ -344,7 +347,7 @@ pub fn run_night(
     }
     let mut night = Night::start(SliceEnd::Ran(Reply::Limit), m, size, n, watch);
     loop {
-        night = slice(image, area, session, output, log, spare, night);
+        night = slice(rt, image, area, session, output, log, spare, night);
         if !night.goes_on() {
             return night;
         }
