@@ -1,5 +1,6 @@
 // The bus in the middle of an instruction: each access at its own moment.
 #![tactic(auto)]
+
 ghost use Rattle.std.specs.Prelude.{◌≡◌, List, ℕ, ◌-◌, ◌<◌};
 ghost use Rattle.bus.specs.Access.{memories, store_of};
 ghost use Rattle.timing.specs.Digits.{listed};

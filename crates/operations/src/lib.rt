@@ -1,6 +1,7 @@
 // What each operation does, apart from its accesses: their shape (which bytes it loads and stores), where they go, what is stored, and
 // what the registers are with what came. Whoever makes the accesses, over the bus or over the image alone, does the operations by these.
 #![tactic(auto)]
+
 ghost use Rattle.std.specs.Prelude.{◌≡◌};
 ghost use Rattle.operations.specs.Shapes.{target_of, monadic_shape, tst_shape, shape_of};
 ghost use Rattle.operations.specs.Operations.{branch, quiet_of, load_at, loaded_of, load_word_at, loaded_word_of};

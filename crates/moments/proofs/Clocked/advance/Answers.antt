@@ -1,0 +1,6 @@
+use native.Mathlib.Omega.{arith}
+use Rattle.moments.proofs.Laws.{advance_law}
+use Rattle.moments.proofs.Clocked.advance.Goals as goal
+
+pub returns : goal.returns
+returns c = advance_law _ (omega arith) c.less-before.ensures c.less.ensures

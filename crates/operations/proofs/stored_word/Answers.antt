@@ -1,0 +1,6 @@
+use Rattle.operations.specs.Operations.{stored_word_then}
+use Rattle.operations.proofs.stored_word.Goals as goal
+
+pub returns : goal.returns
+unfolding stored_word_then
+returns c = rw (c.with_codes.ensures, c.moved16.ensures, c.stored.ensures)
