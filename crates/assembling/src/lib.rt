@@ -1,5 +1,6 @@
 // The assembler for a listing's text (specs/Assembling.antt; listing_reading reads a line).
 #![tactic(auto)]
+
 ghost use Rattle.std.specs.Prelude.{◌≡◌, ◌+◌, ◌≤◌, length};
 ghost use Rattle.std.proofs.lemmas.List.Edits.{sets};
 ghost use Rattle.listing_codes.specs.Keys.{Keys};

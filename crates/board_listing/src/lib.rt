@@ -1,6 +1,7 @@
 // The C calls of listings: a range of an image as text, and such a text as bytes. Crate board exports them; board/pliruzza.h says what each number and
 // each byte means.
 #![tactic(auto)]
+
 ghost use Rattle.std.specs.Prelude.{◌≡◌, ◌≤◌, length};
 ghost use Rattle.board_results.specs.Returned.{returned};
 ghost use Rattle.board_listing.specs.Calls.{list_call, span_in, assemble_call};

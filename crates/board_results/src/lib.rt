@@ -1,6 +1,7 @@
 // The result record of a run, in bytes that the caller lends: the reply, the counts, and the record that a refusal names. And one number told in the
 // result of a call that runs nothing.
 #![tactic(auto)]
+
 ghost use Rattle.std.specs.Prelude.{◌≡◌, ◌≤◌, length};
 ghost use Rattle.std.proofs.Math.Option.{none, some};
 ghost use Rattle.numbers.specs.Numbers.{over};

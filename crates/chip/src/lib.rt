@@ -1,5 +1,6 @@
 // The processor on its bus: each instruction over registers, units and the lent memories.
 #![tactic(auto)]
+
 ghost use Rattle.std.specs.Prelude.{◌≡◌, List, ℕ};
 ghost use Rattle.bus.specs.Access.{memories};
 ghost use Rattle.timing.specs.Table.{access_cycles, entry_accesses};

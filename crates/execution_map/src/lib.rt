@@ -1,5 +1,6 @@
 // The execution map: a bit for each address, set where an executed instruction began, and the running total of its ones.
 #![tactic(auto)]
+
 ghost use Rattle.std.specs.Prelude.{◌≡◌, true, ◌+◌, ◌<◌, ◌^◌, length};
 ghost use Rattle.execution_map.specs.Map.{map_of, has_run, marked, begun_at, ones_of, is_sound, told_search, unrun_answer};
 

@@ -1,5 +1,6 @@
 // The lister: a range of an image as text (specs/Listing.antt; listing_lines has the form of a line).
 #![tactic(auto)]
+
 ghost use Rattle.std.specs.Prelude.{◌≡◌, ◌+◌, ◌≤◌, ◌<◌, length, take};
 ghost use Rattle.std.proofs.lemmas.List.Edits.{sets};
 ghost use Rattle.listing_lines.specs.Lines.{bytes_of, item_line};

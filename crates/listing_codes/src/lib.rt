@@ -1,5 +1,6 @@
 // A mnemonic with an operand as bytes: the opcode is searched among the 256 values of `decode` (specs/Codes.antt).
 #![tactic(auto)]
+
 ghost use Rattle.std.specs.Prelude.{◌≡◌, ◌≤◌, ◌<◌};
 ghost use Rattle.bits.specs.Words.{paired};
 ghost use Rattle.listing_codes.specs.Codes.{form_number, code_for, branch_to, placed_at, coded_as, coded_of};

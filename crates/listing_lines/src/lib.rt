@@ -1,5 +1,6 @@
 // One line of a listing, as it is published: specs/Lines.antt has its columns.
 #![tactic(auto)]
+
 ghost use Rattle.std.specs.Prelude.{◌≡◌, [], ◌∷◌, ◌≤◌, length, take};
 ghost use Rattle.characters.specs.Characters.{hexadecimal_of};
 ghost use Rattle.listing_lines.specs.Lines.{form_of, published_line, column_of, operand_of, bytes_of, item_line};

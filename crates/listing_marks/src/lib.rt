@@ -1,5 +1,6 @@
 // The lister with a map: a column of two characters before each line tells what of it has run (specs/Marks.antt).
 #![tactic(auto)]
+
 ghost use Rattle.std.specs.Prelude.{◌≡◌, ◌+◌, ◌-◌, ◌*◌, ◌≤◌, ◌<◌, length};
 ghost use Rattle.std.proofs.lemmas.List.Edits.{sets};
 ghost use Rattle.listing_lines.specs.Lines.{bytes_of};

@@ -1,5 +1,6 @@
 // One line of a listing read back: its columns are taken for what they say, the line that says so is written, and the text must begin with it.
 #![tactic(auto)]
+
 ghost use Rattle.std.specs.Prelude.{◌≡◌, ◌≤◌, ◌<◌};
 ghost use Rattle.listing_codes.specs.Keys.{Keys};
 ghost use Rattle.listing_reading.specs.Reading.{at, digit_in, two_in, four_in, address_in, column_in, blank_for, name_in, form_in, operand_in, begins, no_end, line_in};

@@ -12,7 +12,6 @@ use Rattle.bits.proofs.Bytes.{bits_kept}
 use Rattle.machine.specs.declared.Machine.{Machine}
 use Rattle.machine.specs.declared.Cause.{Cause}
 use Rattle.machine.specs.declared.Cause.TheVariants.{Nmi, Irq1, Icf, Ocf, Tof, Serial}
-use Rattle.machine.specs.declared.Pending.{Pending}
 use Rattle.machine.specs.declared.Pending.TheVariants.{Nothing, Due}
 use Rattle.machine.specs.Interrupts.{holds, causes, first_cause, pending_of, cause_number, holds_behind, behind_of}
 
@@ -77,6 +76,7 @@ Among j [] = ⊥
 Among j (k ∷ ks) = (j ≡ k) ⊎ Among j ks
 
 above : (n : ℕ) (ks : List Cause) → Rises n ks → (j : Cause) → Among j ks → n ≤ cause_number j
+above n [] r j x = elim x [ ]
 above n (k ∷ ks) r j (inl e) = rw e r.0
 above n (k ∷ ks) r j (inr i) = let l = r.0 in let h = above (cause_number k + 1) ks r.1 j i in omega arith
 

@@ -1,5 +1,6 @@
 // The machine: the chip with its lines, its ranges, reset and power-on, interrupts, events and one step.
 #![tactic(auto)]
+
 ghost use Rattle.std.specs.Prelude.{◌≡◌, ℕ};
 ghost use Rattle.bus.specs.Access.{memories, read_of};
 ghost use Rattle.bus.specs.Units.{byte_sent};

@@ -1,5 +1,6 @@
 // A map's file: its 8,192 bytes, then the total.
 #![tactic(auto)]
+
 ghost use Rattle.std.specs.Prelude.{◌≡◌, length};
 ghost use Rattle.execution_map.specs.Map.{map_of};
 ghost use Rattle.map_file.specs.MapFile.{file_bytes, file_map, is_map_file, map_file_of};

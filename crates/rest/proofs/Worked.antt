@@ -42,12 +42,14 @@ abbrev ones : ℕ → List ℕ
 ones n = replicate n 1
 
 answers : rest_answer two 1 5 (ones 11) ∷ rest_answer two 1 5 (ones 8) ∷ rest_answer two 3 5 (ones 11)
-        ∷ rest_answer (take 16 session) 1 5 (ones 11) ∷ []
+    ∷ rest_answer (take 16 session) 1 5 (ones 11) ∷ []
     ≡ rest_wrote 9 ∷ refuses (told 31 none) ∷ refuses (told 30 none) ∷ refuses (told 4 (some 1)) ∷ []
-unfolding rest_answer rest_refusal has_fewer rest_of rest_from place_of shifted_at length_at kind_at time_at payload_at next_at length_for fits cut_short first_fault fault_at check_turn check_from loop_of turns
+unfolding rest_answer rest_refusal has_fewer rest_of rest_from place_of shifted_at length_at kind_at time_at payload_at next_at length_for fits cut_short
+    first_fault fault_at check_turn check_from loop_of turns
 answers = refl
 
 buffers : rest_buffer two 1 5 (ones 11) ∷ rest_buffer two 1 5 (ones 8) ∷ []
     ≡ (7 ∷ 0 ∷ 1 ∷ 0 ∷ 0 ∷ 0 ∷ 0 ∷ 0 ∷ 0xA5 ∷ 1 ∷ 1 ∷ []) ∷ ones 8 ∷ []
-unfolding rest_buffer rest_refusal has_fewer rest_of rest_from place_of shifted_at length_at kind_at time_at payload_at next_at length_for fits cut_short first_fault fault_at check_turn check_from loop_of turns
+unfolding rest_buffer rest_refusal has_fewer rest_of rest_from place_of shifted_at length_at kind_at time_at payload_at next_at length_for fits cut_short
+    first_fault fault_at check_turn check_from loop_of turns
 buffers = refl

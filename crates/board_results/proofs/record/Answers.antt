@@ -1,8 +1,7 @@
 -- `board_results::record` meets its contract: the leaps after the 40 bytes, or nothing. Assumes nothing.
-use borrow.Author.Rules.{rules}
 use native.Mathlib.Omega.{arith}
 use Rattle.numbers.proofs.Laws.{laid_more}
-use Rattle.board_results.proofs.Laws.{size_least, size_leaping, laid_result}
+use Rattle.board_results.proofs.Laws.{size_leaping, laid_result}
 use Rattle.board_results.proofs.record.Goals as goal
 
 pub returns-then-leaping : goal.returns-then-leaping

@@ -1,5 +1,4 @@
 -- `board_results::write` meets its contract: three numbers after the first 16 bytes. Assumes nothing.
-use borrow.Author.Rules.{rules}
 use native.Mathlib.Omega.{arith}
 use Rattle.numbers.proofs.Laws.{laid_more}
 use Rattle.board_results.specs.Results.{result_bytes}

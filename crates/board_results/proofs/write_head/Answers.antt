@@ -1,5 +1,4 @@
 -- `board_results::write_head` meets its contract: four numbers, one after the other. Assumes nothing.
-use borrow.Author.Rules.{rules}
 use native.Mathlib.Omega.{arith}
 use Rattle.numbers.proofs.Laws.{laid_none, laid_more}
 use Rattle.board_results.specs.Results.{head_bytes}

@@ -1,5 +1,4 @@
 -- `execution_map::begin` meets its contract: the map is marked where it is kept. Assumes nothing.
-use borrow.Author.Rules.{rules}
 use Rattle.execution_map.specs.Map.{begun_at}
 use Rattle.execution_map.proofs.begin.Goals as goal
 

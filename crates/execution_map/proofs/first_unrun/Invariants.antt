@@ -1,10 +1,7 @@
 -- `execution_map::first_unrun` meets its contract: the full search is what is left of it at each turn, and its first is found there. Assumes nothing.
-use borrow.Author.Rules.{rules}
 use Prim.Native.Nat.{◌+◌, ◌-◌}
-use mathlib.Core.Path.{◌≡◌, sym, ◌∙◌}
-use borrow.Author.Tests.{eq-eqb, ne_eqb, not-true, not-false}
-use Rattle.execution_map.specs.Map.{unrun_from, unrun_answer}
-use Rattle.execution_map.proofs.Search.{from_more, from_here, from_end}
+use mathlib.Core.Path.{◌≡◌}
+use Rattle.execution_map.specs.Map.{unrun_from}
 use Rattle.execution_map.proofs.first_unrun.Given as goal
 
 abbrev pub invariant-loop-at : goal.invariant-loop-at

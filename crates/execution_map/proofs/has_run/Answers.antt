@@ -1,5 +1,4 @@
 -- `execution_map::has_run` meets its contract: the bit's test, and true past the map's end. Assumes nothing.
-use borrow.Author.Rules.{rules}
 use mathlib.Core.Path.{sym}
 use Rattle.execution_map.proofs.Laws.{ran_within, ran_past}
 use Rattle.execution_map.proofs.has_run.Goals as goal

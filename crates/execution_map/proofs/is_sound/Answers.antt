@@ -1,5 +1,4 @@
 -- `execution_map::is_sound` meets its contract: the length's test, then the total's. Assumes nothing.
-use borrow.Author.Rules.{rules}
 use borrow.Author.Tests.{eq-eqb, ne_eqb}
 use Rattle.execution_map.specs.Map.{is_sound}
 use Rattle.execution_map.proofs.is_sound.Goals as goal

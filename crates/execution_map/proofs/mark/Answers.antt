@@ -1,5 +1,4 @@
 -- `execution_map::mark` meets its contract: nothing past the map's end nor where the bit is set, else the bit and one more. Assumes nothing.
-use borrow.Author.Rules.{rules}
 use mathlib.Core.Path.{sym, ◌∙◌}
 use borrow.Author.Tests.{eq-eqb}
 use Rattle.execution_map.proofs.Laws.{ran_within, ran_past, marked_again, marked_code}

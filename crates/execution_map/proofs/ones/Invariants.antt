@@ -1,12 +1,8 @@
 -- `execution_map::ones` meets its contract: what is summed and what is left make the ones of the whole map. Assumes nothing.
-use borrow.Author.Rules.{rules}
 use Prim.Native.Nat.{◌+◌, ◌*◌, ◌-◌, ◌≤◌}
-use native.Mathlib.Omega.{arith}
 use mathlib.Core.Path.{◌≡◌}
-use lib.Count.{ones-le}
 use lib.ListN.{length, drop}
 use Rattle.execution_map.specs.Map.{ones_of}
-use Rattle.execution_map.proofs.Laws.{ones_from, ones_end}
 use Rattle.execution_map.proofs.ones.Given as goal
 
 abbrev pub invariant-loop-i : goal.invariant-loop-i
