@@ -1,5 +1,6 @@
 // The words that the programs' lines share: counts, registers and refusals.
 #![tactic(auto)]
+
 ghost use Rattle.std.specs.Prelude.{◌≡◌, ◌++◌};
 ghost use Rattle.std.proofs.Math.Option.{none, some};
 ghost use Rattle.printing.specs.Printing.{decimal_of, hexadecimal_of, empty_line, puts_of};

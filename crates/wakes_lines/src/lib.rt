@@ -1,5 +1,6 @@
 // What `wakes` makes of a log: the first row that no run writes, and a line for each row.
 #![tactic(auto)]
+
 ghost use Rattle.std.specs.Prelude.{◌≡◌, ◌<◌};
 ghost use Rattle.printing.specs.Printing.{empty_line, puts_of};
 ghost use Rattle.wakes_lines.specs.WakesLines.{FirstBad, cause_name, listed, behind_text, wake_text, bad_row_text};
