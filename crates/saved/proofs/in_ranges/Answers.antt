@@ -1,5 +1,4 @@
 -- `saved::in_ranges` meets its contract: the same tests. Assumes nothing.
-use borrow.Author.Rules.{rules}
 use Rattle.saved.specs.Answers.{ranges_in}
 use Rattle.saved.proofs.in_ranges.Goals as goal
 

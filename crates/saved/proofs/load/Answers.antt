@@ -1,7 +1,5 @@
 -- `saved::load` meets its contract: the tests in the same order. Assumes nothing.
-use borrow.Author.Rules.{rules}
 use mathlib.Core.Path.{sym, ◌∙◌}
-use borrow.Author.Tests.{not-true, not-false}
 use Rattle.saved.proofs.Answers.{wrong_length_lem, wrong_version, no_machine, wrong_machine, ready}
 use Rattle.saved.proofs.load.Goals as goal
 

@@ -1,5 +1,4 @@
 -- `saved::machine_in` meets its contract: each part is read at its places. Assumes nothing.
-use borrow.Author.Rules.{rules}
 use Rattle.saved.specs.Layout.{machine_in}
 use Rattle.saved.proofs.machine_in.Goals as goal
 

@@ -1,8 +1,7 @@
 -- `saved::port_byte` meets its contract: each arm is its place of the list. Assumes nothing.
-use borrow.Author.Rules.{rules}
 use Rattle.std.proofs.Common.{arith}
 use mathlib.Core.Path.{◌≡◌, refl}
-use Rattle.saved.proofs.Places.{there, last}
+use Rattle.saved.proofs.Places.{there}
 use Rattle.saved.specs.Layout.{saved_of}
 use Rattle.saved.proofs.port_byte.Goals as goal
 

@@ -1,11 +1,10 @@
 -- `saved::save` meets its contract: after k turns the first k bytes are the saved machine's, and the others as they were. Assumes nothing.
-use borrow.Author.Rules.{rules}
-use Prim.Native.Nat.{ℕ, ◌+◌, ◌-◌, ◌≤◌, ◌<◌}
+use Prim.Native.Nat.{ℕ, ◌+◌, ◌≤◌, ◌<◌}
 use native.Mathlib.Omega.{arith}
-use mathlib.Core.Path.{◌≡◌, refl, sym, ◌∙◌}
+use mathlib.Core.Path.{◌≡◌, ◌∙◌}
 use mathlib.Core.List.{List}
 use lib.ListN.{length, set, length-set}
-use borrow.Author.Tests.{eq-eqb, ne_eqb}
+use borrow.Author.Tests.{eq-eqb}
 use Rattle.machine.specs.declared.Machine.{Machine}
 use Rattle.saved.specs.Layout.{saved_of, byte_in}
 use Rattle.saved.proofs.Places.{over, over_more, over_all}
@@ -24,11 +23,11 @@ full m old bytes k e h i = i ∙ over_all (saved_of m) old k h (omega (arith, e,
 
 pub loop-k-preserved : goal.loop-k-preserved
 loop-k-preserved c = (
-      omega (arith, c.loop-k-test.true),
-      length-set c.loop-k.bytes c.loop-k.k c.saved_byte.result ∙ c.loop-k.invariant.1,
-      more _ c.args.bytes.now _ _ _ c.loop-k-test.true c.if-bytes-ne42.false c.loop-k.invariant.2
-          c.saved_byte.ensures,
-    )
+  omega (arith, c.loop-k-test.true),
+  length-set c.loop-k.bytes c.loop-k.k c.saved_byte.result ∙ c.loop-k.invariant.1,
+  more _ c.args.bytes.now _ _ _ c.loop-k-test.true c.if-bytes-ne42.false c.loop-k.invariant.2
+      c.saved_byte.ensures,
+)
 
 pub returns-clause-fact_2 : goal.returns-clause-fact_2
 returns-clause-fact_2 c = rw (eq-eqb _ _ c.if-bytes-ne42.false)

@@ -1,6 +1,4 @@
 -- `saved::saved_byte` meets its contract: the version, then each unit in its places. Assumes nothing.
-use borrow.Author.Rules.{rules}
-use native.Mathlib.Omega.{arith}
 use mathlib.Core.Path.{refl}
 use Rattle.saved.proofs.Places.{there}
 use Rattle.saved.specs.Layout.{saved_of}

@@ -1,10 +1,9 @@
 -- `saved::timer_byte` meets its contract: each arm is its place of the list. Assumes nothing.
-use borrow.Author.Rules.{rules}
 use Rattle.std.proofs.Common.{arith}
 use mathlib.Core.Path.{◌≡◌, ap}
 use Rattle.timer.specs.declared.TimerRead.{TimerRead}
 use Rattle.timer.specs.Timer.{read_timer}
-use Rattle.saved.proofs.Places.{there, last}
+use Rattle.saved.proofs.Places.{there}
 use Rattle.saved.specs.Layout.{saved_of}
 use Rattle.saved.proofs.timer_byte.Goals as goal
 
