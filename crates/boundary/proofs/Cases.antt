@@ -1,8 +1,8 @@
 -- The ways that a boundary can go, each as a law, in the code's order. Assumes nothing.
-use Rattle.std.proofs.Common.{◌≡◌, ℕ, ◌+◌, ◌<◌, ◌≤◌, Bool, true, false, cond, not, ◌&&◌, List, length, sym, refl, ap, ◌∙◌, subst, ⊎_elim, true≢false, arith, le-leb}
+use Rattle.std.proofs.Common.{◌≡◌, ℕ, ◌<◌, ◌≤◌, Bool, true, false, cond, not, ◌&&◌, List, length, sym, refl, ap, ◌∙◌, subst, ⊎_elim, true≢false, arith, le-leb}
 use mathlib.Core.Bool.{false≢true}
 use borrow.Author.Tests.{lt-leb, not-false}
-use Rattle.turns.specs.Turn.{Turn, more, done}
+use Rattle.turns.specs.Turn.{more, done}
 use Rattle.opcodes.specs.declared.Instruction.{Instruction}
 use Rattle.registers.specs.Registers.{idles}
 use Rattle.bus.specs.Access.{Memories}
@@ -20,7 +20,7 @@ use Rattle.machine.specs.Steps.{Stepped, moved, entered_of, look_of, step_of}
 use Rattle.machine.proofs.Steps.{step_cycles, entered_cycles}
 use Rattle.wake_log.specs.declared.Row.{Row}
 use Rattle.wake_log.specs.Log.{fits_row, with_row}
-use Rattle.boundary.specs.World.{Lent, lending, memories_in, with_memories, Terms, World, world_of, ended_of, grown, grown_to}
+use Rattle.boundary.specs.World.{Lent, lending, memories_in, with_memories, Terms, world_of, ended_of, grown, grown_to}
 use Rattle.boundary.specs.Boundary.{record_taken, records_of, fed_world, sends_of, sent_state, sent_world, row_of, lacks_row, logged_of, logged_world, entered_world}
 use Rattle.boundary.specs.Boundary.{waited_state, waited_world}
 use Rattle.boundary.specs.Boundary.{stepped_world, executed_of, on_pending, act_of, send_of, boundary_of}

@@ -11,9 +11,9 @@ use Rattle.machine.specs.declared.Look.TheVariants as looks
 use Rattle.machine.specs.declared.Pending.{Pending}
 use Rattle.machine.specs.declared.Pending.TheVariants.{Nothing, Due}
 use Rattle.machine.specs.Interrupts.{pending_of}
-use Rattle.machine.specs.Steps.{entry_cycles, entered_of, look_of, step_of}
+use Rattle.machine.specs.Steps.{entered_of, look_of, step_of}
 use Rattle.machine.proofs.Steps.{step_cycles}
-use Rattle.boundary.specs.World.{memories_in, Terms, World, world_of, Ended, ended_of}
+use Rattle.boundary.specs.World.{memories_in, Terms, World, Ended, ended_of}
 use Rattle.boundary.specs.Boundary.{fed_world, sends_of, sent_state, sent_world, lacks_row, logged_world, entered_world, waited_state, waited_world}
 use Rattle.boundary.specs.Boundary.{stepped_world, executed_of, on_pending, act_of, send_of, boundary_of, cycles_left, run_of}
 use Rattle.boundary.specs.Counts.{Fine}

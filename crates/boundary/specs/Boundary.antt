@@ -1,5 +1,5 @@
 -- One boundary of a run, in 01's six steps and their order, with 02's wake log, and the run as boundaries until one stops it.
-use Rattle.std.specs.Prelude.{ℕ, ◌+◌, ◌-◌, ◌%◌, ◌^◌, Bool, true, false, cond, not, ◌&&◌, List, length, set, nat_le, slice_set}
+use Rattle.std.specs.Prelude.{ℕ, ◌+◌, ◌-◌, ◌%◌, ◌^◌, Bool, true, false, cond, not, ◌&&◌, List, length, nat_le, slice_set}
 use Rattle.turns.specs.Turn.{Turn, more, done, loop_of}
 use Rattle.session.specs.Session.{event_at, next_at, due_at}
 use Rattle.serial.specs.Serial.{wants_to_send}

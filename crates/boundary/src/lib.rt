@@ -1,5 +1,6 @@
 // One boundary of a run: records, sending, interrupt, waiting cycle or instruction, with the counts.
 #![tactic(auto)]
+
 ghost use Rattle.std.specs.Prelude.{◌≡◌, ℕ, ◌+◌, ◌^◌, ◌<◌, ◌≤◌, true, false, List, length};
 ghost use Rattle.boundary.specs.World.{Lent, lending, with_memories, watching, unwatched, later, logged_bytes, world_of, grown_to};
 ghost use Rattle.boundary.specs.Boundary.{record_taken, records_of, sent_state, waited_state, row_of, lacks_row, logged_of, entered_world};

@@ -3,7 +3,8 @@
 
 ghost use Rattle.std.specs.Prelude.{◌≡◌, ◌≤◌, ◌<◌};
 ghost use Rattle.listing_codes.specs.Keys.{Keys};
-ghost use Rattle.listing_reading.specs.Reading.{at, digit_in, two_in, four_in, address_in, column_in, blank_for, name_in, form_in, operand_in, begins, no_end, line_in};
+ghost use Rattle.listing_reading.specs.Reading.{at, digit_in, two_in, four_in, address_in, column_in, blank_for, name_in, form_in};
+ghost use Rattle.listing_reading.specs.Reading.{operand_in, begins, no_end, line_in};
 
 use listing_codes::Read;
 use listing_lines::Form;

@@ -1,5 +1,6 @@
 // Power-on: a machine from an image and R, or a refusal.
 #![tactic(auto)]
+
 ghost use Rattle.std.specs.Prelude.{◌≡◌};
 ghost use Rattle.power.specs.Power.{told_power, power_answer};
 

@@ -1,5 +1,6 @@
 // The machine as bytes: saving and loading, in the layout of docs/FORMATS.md.
 #![tactic(auto)]
+
 ghost use Rattle.std.specs.Prelude.{◌≡◌, ◌/◌, ◌≤◌, ◌<◌};
 ghost use Rattle.bits.specs.Bits.{weight};
 ghost use Rattle.bus.specs.Access.{ram_control_of};
