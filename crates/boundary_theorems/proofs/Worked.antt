@@ -93,7 +93,8 @@ table =
 
 pub worked : map found table ≡ map meant table
 unfolding turns loop_of decode_of codes_byte codes_of moved_of dyadic_of reset_ports ticks reset_timer trcs_of read_serial write_serial idle_line wants_to_send
-    sent_of ticks_serial reset_serial serial_request read_of write_of store_of passed reset_bus access_cycles to_next read_at write_at stored_at ended timed run read write ◌>>=◌ read2 operand dyadic sta push push2
+    sent_of ticks_serial reset_serial serial_request read_of write_of store_of passed reset_bus access_cycles to_next read_at write_at stored_at ended timed run read write
+    ◌>>=◌ read2 operand dyadic sta push push2
     stack_all vectored wai enter operate execute length_at kind_at time_at payload_at next_at event_of due_at reset_act reset_of pending_of applied_of
     entered_of look_of step_of record_taken record_turn records_of sent_state entered_world waited_state act_of send_of boundary_of run_of mark_of visits
     path_of rows_of trace_of

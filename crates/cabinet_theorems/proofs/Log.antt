@@ -8,7 +8,6 @@ use mathlib.Core.List.{List, [], ◌++◌}
 use mathlib.Core.Logic.{◌↔◌, ◌⊎◌, inl, inr, ⊎_elim}
 use mathlib.Core.Option.{Option, none, some}
 use lib.ListN.{length, take, drop}
-use Rattle.turns.specs.Turn.{more}
 use Rattle.machine.specs.declared.Machine.{Machine}
 use Rattle.replies.specs.Replies.{Told, told}
 use Rattle.boundary.specs.declared.Stop.{Stop}

@@ -2,6 +2,7 @@
 // the rest of a wait at once, as far as nothing happens in it. In both, plain instructions follow each other as far as nothing
 // else happens among them.
 #![tactic(auto)]
+
 ghost use Rattle.std.specs.Prelude.{◌≡◌, ◌&&◌, ◌||◌, leb, ◌+◌, ◌-◌, ◌≤◌};
 ghost use Rattle.session.specs.Session.{due_at};
 ghost use Rattle.serial.specs.Serial.{wants_to_send, ticks_serial};

@@ -1,5 +1,6 @@
 // The line that `unrun` prints.
 #![tactic(auto)]
+
 ghost use Rattle.std.specs.Prelude.{◌≡◌};
 ghost use Rattle.printing.specs.Printing.{empty_line, puts_of};
 ghost use Rattle.execution_map.specs.Map.{told_search};

@@ -1,0 +1,16 @@
+use Prim.Native.Nat.{◌-◌}
+use mathlib.Core.Path.{◌≡◌}
+use lib.ListN.{length}
+use Rattle.boundary.specs.World.{lending, watching, world_of}
+use Rattle.boundary.specs.Boundary.{run_of}
+use Rattle.boundary.specs.Counts.{Fine}
+use Rattle.run.proofs.run.Given as goal
+
+abbrev pub invariant-loop-image : goal.invariant-loop-image
+invariant-loop-image l = Fine l.s
+    × (run_of (watching l.session l.n l.watch) (world_of l.initial.s (lending l.initial.image l.initial.area l.initial.output l.initial.log))
+    ≡ run_of (watching l.session l.n l.watch) (world_of l.s (lending l.image l.area l.output l.log)))
+    × (length l.image ≡ length l.initial.image) × (length l.area ≡ length l.initial.area) × (length l.output ≡ length l.initial.output) × (length l.log ≡ length l.initial.log)
+
+abbrev pub decreases-loop-image : goal.decreases-loop-image
+decreases-loop-image l = l.n - l.s.cycles.0
