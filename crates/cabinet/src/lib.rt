@@ -1,5 +1,6 @@
 // The public calls: power-on, the two runs, plain and watched, the question about one opcode, and the filled part of a lent buffer.
 #![tactic(auto)]
+
 ghost use Rattle.std.specs.Prelude.{◌≡◌, take};
 ghost use Rattle.asking.specs.Asking.{told_decoded, opcode_answer};
 ghost use Rattle.power.specs.Power.{told_power, power_answer};
