@@ -1,7 +1,5 @@
 -- `wake_cases::show_bytes` ends: each turn is a byte nearer to the last. Assumes nothing.
-use borrow.Author.Rules.{rules}
 use Prim.Native.Nat.{◌-◌, ◌≤◌}
-use native.Mathlib.Omega.{arith}
 use lib.ListN.{length}
 use Rattle.wake_cases.proofs.show_bytes.Given as goal
 
