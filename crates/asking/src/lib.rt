@@ -1,5 +1,6 @@
 // The public calls that need no machine: the question about one opcode, and the filled part of a lent output.
 #![tactic(auto)]
+
 ghost use Rattle.std.specs.Prelude.{◌≡◌, take};
 ghost use Rattle.asking.specs.Asking.{told_decoded, opcode_answer};
 

@@ -1,6 +1,6 @@
 -- An operation's numbers are three. Assumes nothing.
 use Prim.Native.Nat.{ℕ}
-use mathlib.Core.List.{List, [], ◌∷◌, ◌++◌}
+use mathlib.Core.List.{List, ◌∷◌, ◌++◌}
 use mathlib.Core.Path.{◌≡◌, refl}
 use lib.ListN.{get_or}
 use Rattle.opcodes.specs.declared.Operation.{Operation}

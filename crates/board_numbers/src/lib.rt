@@ -1,6 +1,7 @@
 // An instruction as six numbers of a byte each, for callers that can be handed bytes only: the group of its operation, the operation
 // within the group, the accumulator that is part of it, the operand place, the length and the cycles. And what a run is to watch, as bits of a number.
 #![tactic(auto)]
+
 ghost use Rattle.std.specs.Prelude.{◌≡◌};
 ghost use Rattle.board_numbers.specs.Numbers.{accumulator_number, dyadic_number, monadic_number, wide_number, wide_store_number};
 ghost use Rattle.board_numbers.specs.Numbers.{internal_number, branch_number, place_number, operation_bytes, instruction_bytes};

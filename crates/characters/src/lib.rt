@@ -1,5 +1,6 @@
 // Hexadecimal digits as characters.
 #![tactic(auto)]
+
 ghost use Rattle.std.specs.Prelude.{◌≡◌, ◌<◌};
 ghost use Rattle.characters.specs.Characters.{digit_of};
 

@@ -1,5 +1,6 @@
 // A count each, so that one cannot be taken for another.
 #![tactic(auto)]
+
 #[derive(Clone, Copy)]
 pub struct Cycles(pub u32);
 

@@ -1,5 +1,5 @@
 -- Something is not nothing. Assumes nothing.
-use mathlib.Core.Option.{Option, none, some}
+use mathlib.Core.Option.{none, some}
 use mathlib.Core.Path.{◌≡◌}
 use Rattle.laws.proofs.Apart.{apart}
 

@@ -1,5 +1,6 @@
 // The line that `assembler` prints.
 #![tactic(auto)]
+
 ghost use Rattle.std.specs.Prelude.{◌≡◌};
 ghost use Rattle.std.proofs.Math.Option.{some};
 ghost use Rattle.printing.specs.Printing.{empty_line, puts_of};

@@ -1,5 +1,6 @@
 // A number in hexadecimal, as the argument of a program.
 #![tactic(auto)]
+
 ghost use Rattle.std.specs.Prelude.{◌≡◌, ◌≤◌};
 ghost use Rattle.listing_arguments.specs.Hexadecimal.{digit_value, told_hex, with_hex_digit, hex_of};
 

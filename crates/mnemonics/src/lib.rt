@@ -1,5 +1,6 @@
 // The mnemonic of an operation at a place, as four characters: one table over the operations, by which a listing is written and read.
 #![tactic(auto)]
+
 ghost use Rattle.std.specs.Prelude.{◌≡◌};
 ghost use Rattle.mnemonics.specs.Mnemonics.{letter_of, place_letter, lettered, dyadic_name, monadic_name, wide_name, wide_store_name};
 ghost use Rattle.mnemonics.specs.Mnemonics.{internal_name, branch_name, mnemonic_of};

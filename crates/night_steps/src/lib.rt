@@ -1,6 +1,7 @@
 // The sequence of a night's operations on its files: the next one, from the last one and whether it went well. A program carries them out and knows
 // no order of its own. proofs/Plan.antt: it is the sequence of night_folders' theorems, and it keeps to their rules whatever the system answers.
 #![tactic(auto)]
+
 ghost use Rattle.std.specs.Prelude.{◌≡◌};
 ghost use Rattle.night_steps.specs.Steps.{choice, after_make, after_put, after_unlink, next_op, waits_of, is_make};
 

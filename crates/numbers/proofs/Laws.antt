@@ -8,7 +8,7 @@ use mathlib.Core.List.{List, [], ◌∷◌, ◌++◌, append_assoc, append-nil}
 use mathlib.Core.Path.{◌≡◌, refl, sym, ap, ◌∙◌}
 use lib.ListN.{length, take, drop, set, length-append, length-drop}
 use lib.Seq.{sets, sets-eq, take-suc-set, take_all, take_at, drop_at, drop-drop, length-take-le}
-use Rattle.numbers.specs.Numbers.{four, little_endian, four_bytes, over}
+use Rattle.numbers.specs.Numbers.{little_endian, four_bytes, over}
 
 pub length_little_endian : (w n : ℕ) → length (little_endian w n) ≡ w
 unfolding little_endian

@@ -1,5 +1,6 @@
 // Numbers in bytes, little-endian: read at a place of some bytes, and written over a lent part.
 #![tactic(auto)]
+
 ghost use Rattle.std.specs.Prelude.{◌≡◌, ◌≤◌, ◌++◌, drop, length};
 ghost use Rattle.numbers.specs.Numbers.{byte_at, two, four, little_endian};
 

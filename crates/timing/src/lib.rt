@@ -1,5 +1,6 @@
 // In which cycle of its instruction each access stands, a digit in base 16 each, the first access last.
 #![tactic(auto)]
+
 ghost use Rattle.std.specs.Prelude.{◌≡◌};
 ghost use Rattle.timing.specs.Digits.{listed};
 ghost use Rattle.timing.specs.Table.{placed, access_cycles, entry_accesses};

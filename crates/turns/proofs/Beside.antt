@@ -1,6 +1,6 @@
 -- Two loops side by side, of any states and results: Q relates the states of the one to those of the other, E the results. Two loops whose
 -- turns keep a relation end related. Assumes nothing.
-use Prim.Native.Nat.{ℕ, zero, suc, ◌+◌, ◌≤◌, ◌<◌}
+use Prim.Native.Nat.{ℕ, zero, suc, ◌+◌, ◌<◌}
 use native.Mathlib.Omega.{arith}
 use mathlib.Core.Path.{◌≡◌, refl}
 use Rattle.turns.specs.Turn.{Turn, more, done, loop_of}

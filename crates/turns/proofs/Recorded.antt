@@ -8,7 +8,7 @@ use mathlib.Core.List.{List, [], ◌∷◌, ◌++◌, append_assoc, append-nil}
 use lib.Dec.{leb}
 use lib.ListN.{length, take, length-append}
 use lib.Seq.{take_at}
-use borrow.Author.Tests.{le-leb, lt-leb, leb-true, leb-false}
+use borrow.Author.Tests.{leb-true, leb-false}
 use Rattle.turns.specs.Turn.{Turn, more, done, Then, loop_of}
 use Rattle.turns.specs.Recorded.{onward, visits, path_of, all_of, rows_of, Listed, listed, with_rows}
 use Rattle.turns.specs.Recorded.{recorded_turn, recorded_of, roomy_turn, roomy_of, total}

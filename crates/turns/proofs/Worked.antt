@@ -1,8 +1,8 @@
 -- The laws of two loops and of what a loop did, used on small loops. Assumes nothing.
 use Prim.Native.Nat.{ℕ, zero, suc, ◌+◌, ◌≤◌, ◌<◌}
 use native.Mathlib.Omega.{arith}
-use mathlib.Core.Path.{◌≡◌, refl, sym, ap, subst, ◌∙◌}
-use mathlib.Core.List.{List, [], ◌∷◌, ◌++◌}
+use mathlib.Core.Path.{◌≡◌, refl, sym, subst, ◌∙◌}
+use mathlib.Core.List.{List, [], ◌∷◌}
 use lib.ListN.{length, take}
 use Rattle.turns.specs.Turn.{Turn, more, done, Then, turns, loop_of}
 use Rattle.turns.specs.Recorded.{rows_of, listed, recorded_turn, recorded_of, roomy_turn, roomy_of, total}

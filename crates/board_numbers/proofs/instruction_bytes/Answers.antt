@@ -1,6 +1,4 @@
 -- `board_numbers::instruction_bytes` meets its contract: three bytes of the operation, then the others. Assumes nothing.
-use borrow.Author.Rules.{rules}
-use mathlib.Core.Path.{◌∙◌}
 use Rattle.board_numbers.specs.Numbers.{instruction_bytes}
 use Rattle.board_numbers.proofs.Laws.{three_then_lem}
 use Rattle.board_numbers.proofs.instruction_bytes.Goals as goal

@@ -1,5 +1,4 @@
 -- `listing_arguments::digit` meets its contract: a character by where it lies. Assumes nothing.
-use borrow.Author.Rules.{rules}
 use native.Mathlib.Omega.{arith}
 use Rattle.listing_arguments.proofs.Laws.{before_0, to_9, before_A, to_F, before_a, to_f, after_f}
 use Rattle.listing_arguments.proofs.digit.Goals as goal

@@ -1,5 +1,4 @@
 -- `listing_arguments::with_digit` meets its contract: test by test. Assumes nothing.
-use borrow.Author.Rules.{rules}
 use Rattle.listing_arguments.proofs.Laws.{no_digit, too_large, one_more}
 use Rattle.listing_arguments.proofs.with_digit.Goals as goal
 

@@ -1,5 +1,4 @@
 -- `mnemonics::mnemonic` meets its contract: each arm is its own case. Assumes nothing.
-use borrow.Author.Rules.{rules}
 use Rattle.mnemonics.specs.Mnemonics.{mnemonic_of}
 use Rattle.mnemonics.proofs.mnemonic.Goals as goal
 

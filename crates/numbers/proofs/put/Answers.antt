@@ -1,12 +1,10 @@
 -- `numbers::put` meets its contract: each turn puts one byte more. Assumes nothing.
 use borrow.Author.Rules.{rules}
-use Prim.Native.Nat.{◌≤◌, ◌-◌, ◌%◌}
+use Prim.Native.Nat.{◌%◌}
 use native.Mathlib.Omega.{arith}
-use mathlib.Core.Path.{◌≡◌, refl, sym, ap, ◌∙◌}
-use mathlib.Core.List.{◌++◌}
-use lib.ListN.{length, take, length-set}
-use Rattle.numbers.specs.Numbers.{little_endian}
-use Rattle.numbers.proofs.Laws.{bytes_none, bytes_more, bytes_all}
+use mathlib.Core.Path.{sym, ◌∙◌}
+use lib.ListN.{length, length-set}
+use Rattle.numbers.proofs.Laws.{bytes_more, bytes_all}
 use Rattle.numbers.proofs.put.Goals as goal
 
 pub loop-i-preserved : goal.loop-i-preserved

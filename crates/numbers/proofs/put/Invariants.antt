@@ -1,12 +1,9 @@
 -- `numbers::put` meets its contract: each turn puts one byte more. Assumes nothing.
-use borrow.Author.Rules.{rules}
-use Prim.Native.Nat.{◌≤◌, ◌-◌, ◌%◌}
-use native.Mathlib.Omega.{arith}
-use mathlib.Core.Path.{◌≡◌, refl, sym, ap, ◌∙◌}
+use Prim.Native.Nat.{◌≤◌, ◌-◌}
+use mathlib.Core.Path.{◌≡◌}
 use mathlib.Core.List.{◌++◌}
-use lib.ListN.{length, take, length-set}
+use lib.ListN.{length, take}
 use Rattle.numbers.specs.Numbers.{little_endian}
-use Rattle.numbers.proofs.Laws.{bytes_none, bytes_more, bytes_all}
 use Rattle.numbers.proofs.put.Given as goal
 
 abbrev pub invariant-loop-i : goal.invariant-loop-i

@@ -1,5 +1,5 @@
 -- `opcodes::decode` meets its contract: the opcodes of each arm by one comparison with the table. Assumes nothing.
-use Rattle.std.proofs.Common.{ℕ, ◌%◌, get_or, refl, arith, rules}
+use Rattle.std.proofs.Common.{ℕ, get_or, refl, arith}
 use Rattle.opcodes.proofs.Places.{row_at}
 use Rattle.opcodes.specs.Opcodes.{decode_of, row0, row1, row2, row3}
 use Rattle.opcodes.specs.Parts.{one_byte_of, modified_of, two_bytes_of, immediate_of}

@@ -1,4 +1,3 @@
-use borrow.Author.Rules.{rules}
 use native.Mathlib.Omega.{arith}
 use Rattle.timer.specs.Timer.{distance_of}
 use Rattle.timer.proofs.distance.Goals as goal

@@ -1,4 +1,3 @@
-use borrow.Author.Rules.{rules}
 use Rattle.timing.specs.Digits.{listed}
 use Rattle.timing.specs.Table.{access_cycles}
 use Rattle.timing.proofs.accesses.Goals as goal

@@ -1,4 +1,3 @@
-use borrow.Author.Rules.{rules}
 use Rattle.timing.specs.Digits.{listed}
 use Rattle.timing.proofs.at_place.Goals as goal
 

@@ -1,4 +1,3 @@
-use borrow.Author.Rules.{rules}
 use Rattle.ports.specs.Ports.{read_port}
 use mathlib.Core.Path.{refl}
 use Rattle.ports.proofs.Port.read.Goals as goal

@@ -1,4 +1,3 @@
-use borrow.Author.Rules.{rules}
 use Rattle.ports.specs.Ports.{edge_of}
 use Rattle.ports.proofs.Ports.has_edge.Goals as goal
 

@@ -1,4 +1,3 @@
-use borrow.Author.Rules.{rules}
 use Rattle.ports.specs.Ports.{ports_ranges}
 use mathlib.Core.Path.{refl}
 use Rattle.ports.proofs.Ports.in_ranges.Goals as goal

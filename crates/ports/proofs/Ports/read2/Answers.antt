@@ -1,4 +1,3 @@
-use borrow.Author.Rules.{rules}
 use Rattle.ports.specs.Ports.{read_ports}
 use Rattle.ports.proofs.Ports.read2.Goals as goal
 

@@ -1,4 +1,3 @@
-use borrow.Author.Rules.{rules}
 use Rattle.ports.specs.Ports.{reset_ports}
 use Rattle.ports.proofs.Ports.reset.Goals as goal
 

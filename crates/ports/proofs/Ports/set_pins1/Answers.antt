@@ -1,4 +1,3 @@
-use borrow.Author.Rules.{rules}
 use Rattle.ports.specs.Ports.{with_pins1}
 use mathlib.Core.Path.{refl}
 use Rattle.ports.proofs.Ports.set_pins1.Goals as goal

@@ -1,4 +1,3 @@
-use borrow.Author.Rules.{rules}
 use Rattle.ports.specs.Ports.{with_pins2}
 use mathlib.Core.Path.{refl}
 use Rattle.ports.proofs.Ports.set_pins2.Goals as goal

@@ -1,4 +1,3 @@
-use borrow.Author.Rules.{rules}
 use Rattle.ports.specs.Ports.{write_ports}
 use Rattle.ports.proofs.Ports.write.Goals as goal
 

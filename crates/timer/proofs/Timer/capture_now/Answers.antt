@@ -1,4 +1,3 @@
-use borrow.Author.Rules.{rules}
 use Rattle.timer.specs.Timer.{captured}
 use Rattle.timer.proofs.Timer.capture_now.Goals as goal
 

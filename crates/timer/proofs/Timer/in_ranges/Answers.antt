@@ -1,4 +1,3 @@
-use borrow.Author.Rules.{rules}
 use Rattle.timer.specs.Timer.{timer_ranges}
 use Rattle.timer.proofs.Timer.in_ranges.Goals as goal
 

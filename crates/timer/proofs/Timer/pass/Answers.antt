@@ -1,4 +1,3 @@
-use borrow.Author.Rules.{rules}
 use native.Mathlib.Omega.{arith}
 use Rattle.timer.proofs.Closed.{pass_law}
 use Rattle.timer.proofs.Timer.pass.Goals as goal

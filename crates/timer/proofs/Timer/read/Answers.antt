@@ -1,4 +1,3 @@
-use borrow.Author.Rules.{rules}
 use Rattle.timer.specs.Timer.{read_timer}
 use Rattle.timer.proofs.Timer.read.Goals as goal
 

@@ -1,4 +1,3 @@
-use borrow.Author.Rules.{rules}
 use Rattle.timer.specs.Timer.{reset_timer}
 use Rattle.timer.proofs.Timer.reset.Goals as goal
 

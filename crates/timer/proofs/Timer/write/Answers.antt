@@ -1,4 +1,3 @@
-use borrow.Author.Rules.{rules}
 use Rattle.timer.specs.Timer.{write_timer}
 use Rattle.timer.proofs.Timer.write.Goals as goal
 
