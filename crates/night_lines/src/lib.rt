@@ -1,5 +1,6 @@
 // A night's lines: one for each slice, and the night's own.
 #![tactic(auto)]
+
 ghost use Rattle.std.specs.Prelude.{◌≡◌};
 ghost use Rattle.printing.specs.Printing.{empty_line, puts_of};
 ghost use Rattle.replies.specs.Replies.{told_reply};

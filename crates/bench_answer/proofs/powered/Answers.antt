@@ -1,0 +1,30 @@
+-- `powered` meets its contract: power-on's answer decides. Assumes nothing.
+use borrow.Author.Rules.{rules}
+use mathlib.Core.Path.{◌≡◌, refl, ap, ◌∙◌}
+use Rattle.boundary.specs.World.{Lent, lent}
+use Rattle.cabinet.specs.declared.Ran.{Ran}
+use Rattle.cabinet.specs.Answers.{answered}
+use Rattle.printing.specs.Printing.{empty_line, puts_of}
+use Rattle.bench_answer.specs.Answer.{nothing, stop_text, text_of, powered_text}
+use Rattle.bench_answer.proofs.powered.Goals as goal
+
+-- the text tells nothing of what was lent
+text-alone : (r : Ran) (l : Lent) → text_of (answered r nothing) ≡ text_of (answered r l)
+unfolding text_of stop_text
+text-alone r l = refl
+
+pub returns-in-WrongImage : goal.returns-in-WrongImage
+unfolding powered_text
+returns-in-WrongImage c = rw (← c.power_on-power.ensures, c.in-WrongImage.is) c.refused.ensures
+
+pub returns-in-WrongStart : goal.returns-in-WrongStart
+unfolding powered_text
+returns-in-WrongStart c = rw (← c.power_on-power.ensures, c.in-WrongStart.is) c.refused-in-WrongStart.ensures
+
+pub returns-in-On : goal.returns-in-On
+unfolding powered_text
+returns-in-On c = rw (← c.power_on-power.ensures, c.in-On.is)
+    (c.report.ensures
+    ∙ ap (λ t. puts_of empty_line t)
+    (text-alone c.run_leaping-leapt.result.ran (lent c.run_leaping-leapt.new.0 c.run_leaping-leapt.new.1.0 c.run_leaping-leapt.new.1.1.1.1.1.0)
+    ∙ ap text_of c.run_leaping-leapt.ensures.0))
