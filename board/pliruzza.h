@@ -1,7 +1,7 @@
 /* Pliruzza: a proved model of the HD6803, for C.
  *
- * `rt staticlib board` writes target/staticlib/libboard.a, which defines these calls for x86-64 Linux. Each is proved against the contract that
- * crates/board states: for all lengths and bytes that are lent, it fixes the number returned and every byte that is written.
+ * `sh board/run.sh` proves crates/board_c and writes its archive as target/staticlib/libboard.a, which defines these calls for x86-64 Linux. Each is proved
+ * against the contract that crates/board_c states: for all lengths and bytes that are lent, it fixes the number returned and every byte that is written.
  *
  * A buffer is passed as a pointer and a length in bytes. What the caller owes, and nothing can test: the bytes are there (to be written where the
  * pointer is not const), two buffers of one call do not overlap, and no pointer is null, also where the length is 0.

@@ -6,7 +6,6 @@
 # Exit status: 0 as expected, 1 not, 2 the set-up is broken.
 set -eu
 root=$(cd "$(dirname "$0")/.." && pwd)
-. "$root/tools/launch.sh"
 cd "$root"
 if [ "$(uname -m)" = x86_64 ]; then compiler=${CC:-cc}; else compiler=${CC:-x86_64-linux-gnu-gcc}; fi
 if ! command -v "$compiler" >/dev/null; then
@@ -15,14 +14,17 @@ if ! command -v "$compiler" >/dev/null; then
     echo "  elsewhere the cross compiler (apt-get install gcc-x86-64-linux-gnu libc6-dev-amd64-cross)." >&2
     exit 2
 fi
-rt staticlib board >&2 || broken "board is not proved"
+command -v rt >/dev/null || { echo "board/run.sh: rt is not on the PATH: the Rattle kit is needed" >&2; exit 2; }
+(cd crates/board_c && rt lib) </dev/null >&2 || { echo "board/run.sh: board_c is not proved" >&2; exit 2; }
 built=target/board
-mkdir -p "$built"
+mkdir -p "$built" target/staticlib
+cp crates/board_c/out/libboard_c.a target/staticlib/libboard.a
 "$compiler" -std=c99 -O2 -Wall -Wextra -Wpedantic -Werror -Iboard -o "$built/night" board/night.c target/staticlib/libboard.a
 # a compiler's own program: under the kit's loader and C library only where the machine has none for it
 if [ "$(uname -m)" = x86_64 ]; then
     "$built/night" >"$built/night.out"
 else
+    . "$root/tools/launch.sh"
     launch "$built/night" >"$built/night.out"
 fi
 cat "$built/night.out"

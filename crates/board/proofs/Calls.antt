@@ -24,7 +24,7 @@ use Rattle.saved.proofs.Exactly.{load_gives}
 use Rattle.board_numbers.specs.Watch.{asks_log, unknown_bits}
 use Rattle.board_results.specs.declared.Counted.{Counted}
 use Rattle.board_results.specs.Results.{told_counts, no_counts, record_size, record_bytes, unfit_reply}
-use Rattle.board.specs.Board.{Buffers, buffers, Called, called, counts_of, counted_of, reported, refused_call, ran_call, on_load, run_call, watch_call}
+use Rattle.board.specs.Board.{Buffers, buffers, Called, called, counts_of, counted_of, reported, refused_call, on_load, run_call, watch_call}
 
 module _ (leaping : Bool) (t : Terms) (b : Buffers) where
   pub run_short : {size : ℕ} → size ≡ record_size leaping → length b.result < size → called 29 b ≡ run_call leaping t b

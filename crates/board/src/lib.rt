@@ -1,7 +1,8 @@
 // The C calls: power-on, the two runs, plain and watched, the question about one opcode, the rest of a session, a listing and its bytes, over numbers and
 // lent bytes.
-// board/pliruzza.h declares them and says what each number and each byte means.
+// Crate board_c exports them under these names; board/pliruzza.h declares them and says what each number and each byte means.
 #![tactic(auto)]
+
 ghost use Rattle.std.specs.Prelude.{◌≡◌, true, false};
 ghost use Rattle.boundary.specs.World.{lent, lending, terms, watching};
 ghost use Rattle.board_results.specs.Returned.{returned};
@@ -16,24 +17,21 @@ use counts::{Cycles, Records};
 use saved::Loaded;
 
 // Power-on into a saved machine.
-#[unsafe(no_mangle)]
-pub extern "C" fn pliruzza_power_on(image: &[u8], r: u32, machine: &mut [u8]) -> u32
+pub fn pliruzza_power_on(image: &[u8], r: u32, machine: &mut [u8]) -> u32
     ensures { wrote result machine.new ≡ power_call image.now r machine.old }
 {
     board_calls::power_on(image, r, machine)
 }
 
 // The question about one opcode, answered by six numbers.
-#[unsafe(no_mangle)]
-pub extern "C" fn pliruzza_ask(opcode: u8, answer: &mut [u8]) -> u32
+pub fn pliruzza_ask(opcode: u8, answer: &mut [u8]) -> u32
     ensures { wrote result answer.new ≡ ask_call opcode answer.old }
 {
     board_calls::ask(opcode, answer)
 }
 
 // The rest of a session, of which so many records were used in so many cycles.
-#[unsafe(no_mangle)]
-pub extern "C" fn pliruzza_rest(
+pub fn pliruzza_rest(
     session: &[u8],
     used: usize,
     cycles: u32,
@@ -47,14 +45,7 @@ pub extern "C" fn pliruzza_rest(
 }
 
 // The listing of first to last, both included.
-#[unsafe(no_mangle)]
-pub extern "C" fn pliruzza_list(
-    image: &[u8],
-    first: u32,
-    last: u32,
-    buffer: &mut [u8],
-    res: &mut [u8],
-) -> u32
+pub fn pliruzza_list(image: &[u8], first: u32, last: u32, buffer: &mut [u8], res: &mut [u8]) -> u32
     ensures { returned result buffer.new res.new
         ≡ list_call image.now first last buffer.old res.old }
 {
@@ -62,8 +53,7 @@ pub extern "C" fn pliruzza_list(
 }
 
 // The bytes of a listing's text.
-#[unsafe(no_mangle)]
-pub extern "C" fn pliruzza_assemble(text: &[u8], buffer: &mut [u8], res: &mut [u8]) -> u32
+pub fn pliruzza_assemble(text: &[u8], buffer: &mut [u8], res: &mut [u8]) -> u32
     ensures { returned result buffer.new res.new
         ≡ assemble_call text.now buffer.old res.old }
 {
@@ -195,8 +185,7 @@ fn watch_call(
 }
 
 // The single run.
-#[unsafe(no_mangle)]
-pub extern "C" fn pliruzza_run_single(
+pub fn pliruzza_run_single(
     image: &mut [u8],
     area: &mut [u8],
     machine: &mut [u8],
@@ -213,8 +202,7 @@ pub extern "C" fn pliruzza_run_single(
 }
 
 // The leaping run.
-#[unsafe(no_mangle)]
-pub extern "C" fn pliruzza_run_leaping(
+pub fn pliruzza_run_leaping(
     image: &mut [u8],
     area: &mut [u8],
     machine: &mut [u8],
@@ -231,8 +219,7 @@ pub extern "C" fn pliruzza_run_leaping(
 }
 
 // The single run, watched.
-#[unsafe(no_mangle)]
-pub extern "C" fn pliruzza_watch_single(
+pub fn pliruzza_watch_single(
     image: &mut [u8],
     area: &mut [u8],
     machine: &mut [u8],
@@ -255,8 +242,7 @@ pub extern "C" fn pliruzza_watch_single(
 }
 
 // The leaping run, watched.
-#[unsafe(no_mangle)]
-pub extern "C" fn pliruzza_watch_leaping(
+pub fn pliruzza_watch_leaping(
     image: &mut [u8],
     area: &mut [u8],
     machine: &mut [u8],

@@ -1,6 +1,7 @@
 // The C calls that run nothing: power-on, the question about one opcode and the rest of a session, over numbers and lent bytes.
 // Crate board exports them; board/pliruzza.h says what each number and each byte means.
 #![tactic(auto)]
+
 ghost use Rattle.std.specs.Prelude.{◌≡◌};
 ghost use Rattle.board_results.specs.Returned.{returned};
 ghost use Rattle.board_calls.specs.Calls.{wrote, power_call, ask_call, rest_call};

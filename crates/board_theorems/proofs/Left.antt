@@ -18,7 +18,7 @@ use Rattle.machine.specs.declared.Machine.{Machine}
 use Rattle.machine.specs.Machine.{cold, reset_of}
 use Rattle.machine.proofs.Ranges.{say_ranges}
 use Rattle.power.proofs.Settled.{power_gives}
-use Rattle.boundary.specs.World.{Lent, Terms}
+use Rattle.boundary.specs.World.{Terms}
 use Rattle.cabinet.specs.Answers.{Answer, answer_of, leaps_of}
 use Rattle.cabinet.proofs.Ends.{reply_most}
 use Rattle.cabinet_theorems.proofs.Left.{refused_untouched, machine_left}

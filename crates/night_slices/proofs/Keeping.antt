@@ -40,12 +40,11 @@ module _ (s : List ℕ) (u c : ℕ) where
         omega arith
 
     pub written_stands : (session : List ℕ) {b' session' : List ℕ} → b' ≡ rest_buffer s u c b
-        → session' ≡ take (length (take n b')) (take n b') ++ drop (length (take n b')) session → take n session' ≡ rest
+        → session' ≡ take n b' ++ drop (length (take n b')) session → take n session' ≡ rest
     written_stands session {b'} f g =
         let w = (rest_written s u c b n).0 (sym e) in
         let front : take n b' ≡ rest = ap (take n) (f ∙ rest_left s u c b w.0) ∙ take_at rest _ _ (sym w.1) in
-        let all : take (length (take n b')) (take n b') ≡ rest = take_all (length (take n b')) (take n b') (omega arith) ∙ front in
-        ap (take n) (g ∙ ap (λ (x : List ℕ). x ++ drop (length (take n b')) session) all) ∙ take_at rest _ _ (sym w.1)
+        ap (take n) (g ∙ ap (λ (x : List ℕ). x ++ drop (length (take n b')) session) front) ∙ take_at rest _ _ (sym w.1)
 
   module _ (t : Told) where
     -- a refused run keeps the session

@@ -42,6 +42,6 @@ returns-in-Run c = let input = c.args.input.now in
     puts_then _ _ _
     (c.powered.ensures
     ∙ ap (λ t. puts_of empty_line t)
-    (run-text input c.load-loaded.new.1.0 _ _ _ (sym c.load-loaded.ensures.0 ∙ c.in-Run.is)
+    (run-text input c.load-loaded.new.image _ _ _ (sym c.load-loaded.ensures.0 ∙ c.in-Run.is)
     (c.load-loaded.ensures.1 ∙ ap (λ l. image_of input l) c.blank-image.ensures.0)))
     c.text.ensures

@@ -26,5 +26,5 @@ unfolding powered_text
 returns-in-On c = rw (← c.power_on-power.ensures, c.in-On.is)
     (c.report.ensures
     ∙ ap (λ t. puts_of empty_line t)
-    (text-alone c.run_leaping-leapt.result.ran (lent c.run_leaping-leapt.new.0 c.run_leaping-leapt.new.1.0 c.run_leaping-leapt.new.1.1.1.1.1.0)
+    (text-alone c.run_leaping-leapt.result.ran (lent c.run_leaping-leapt.new.image c.run_leaping-leapt.new.area c.run_leaping-leapt.new.output)
     ∙ ap text_of c.run_leaping-leapt.ensures.0))

@@ -1,0 +1,24 @@
+-- `board_calls::power_on` meets its contract: each way that the call can end is a law of Calls. Assumes nothing.
+use mathlib.Core.Path.{◌∙◌}
+use Rattle.board_calls.proofs.Calls.{power_short, powered, power_saved}
+use Rattle.board_calls.proofs.power_on.Goals as goal
+
+pub returns-then-machine-ne42 : goal.returns-then-machine-ne42
+returns-then-machine-ne42 c = let a = c.args in
+    power_short a.image.now a.r a.machine.now c.if-machine-ne42.true
+
+pub returns-in-On : goal.returns-in-On
+returns-in-On c = let a = c.args in
+    let long = c.if-machine-ne42.false in
+    power_saved a.image.now a.r a.machine.now _ long c.save.ensures.fact_2
+    ∙ powered a.image.now a.r a.machine.now _ long c.power_on-power.ensures c.in-On.is
+
+pub returns-in-WrongImage : goal.returns-in-WrongImage
+returns-in-WrongImage c = let a = c.args in
+    powered a.image.now a.r a.machine.now _
+    c.if-machine-ne42.false c.power_on-power.ensures c.in-WrongImage.is
+
+pub returns-in-WrongStart : goal.returns-in-WrongStart
+returns-in-WrongStart c = let a = c.args in
+    powered a.image.now a.r a.machine.now _
+    c.if-machine-ne42.false c.power_on-power.ensures c.in-WrongStart.is
