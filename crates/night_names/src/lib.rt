@@ -4,7 +4,8 @@
 
 ghost use Rattle.std.specs.Prelude.{◌+◌, ◌-◌, ◌≤◌, ◌≡◌, length, take, drop};
 ghost use Rattle.io.specs.Counts.{IsPrefixLen};
-ghost use Rattle.night_names.specs.Names.{begins_at, last_at, is_place, is_beside, is_with, is_of_state, is_read, are_names, parts_of, with_name, names_of, name_at};
+ghost use Rattle.night_names.specs.Names.{begins_at, last_at, is_place, is_beside, is_with, is_of_state, is_read};
+ghost use Rattle.night_names.specs.Names.{are_names, parts_of, with_name, names_of, name_at};
 ghost use Rattle.night_names.specs.Names.{files_of, none_empty, are_recorded, is_among, is_further, is_area, named_place, place_of, work_of};
 
 use night_arguments::same;

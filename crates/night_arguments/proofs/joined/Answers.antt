@@ -29,5 +29,6 @@ returns c =
     let told = counted a.name.now a.ending.now (length a.buffer.now) _ (omega (arith, g, h))
     (both_stand a.name.now a.ending.now _ _ _
     (c.copy.ensures ∙ ap (λ (x : List ℕ). x ++ drop (length a.name.now) a.buffer.now) (sym (take-length a.name.now)))
-    (c.copy-2.ensures ∙ ap (λ (x : List ℕ). x ++ drop (length a.ending.now) (take (length c.copy.new.to - length a.name.now) (drop (length a.name.now) c.copy.new.to))) (sym (take-length a.ending.now)))) in
+    (c.copy-2.ensures
+    ∙ ap (λ (x : List ℕ). x ++ drop (length a.ending.now) (take (length c.copy.new.to - length a.name.now) (drop (length a.name.now) c.copy.new.to))) (sym (take-length a.ending.now)))) in
     record { prefix_len = told.0; buffer_after = told.1 }
