@@ -1,5 +1,6 @@
 // The bench program's answer to an input: one line, from the leaping run.
 #![tactic(auto)]
+
 ghost use Rattle.std.specs.Prelude.{◌≡◌, length};
 ghost use Rattle.power.specs.Power.{power_answer};
 ghost use Rattle.cabinet.specs.Answers.{answered};

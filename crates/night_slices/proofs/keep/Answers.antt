@@ -42,8 +42,7 @@ returns-in-Written c =
     let p = c.requires in
     let had = take a.size a.session.now in
     let stopped : stops (told_reply a.reply).number ≡ true = sym c.is_stop.ensures ∙ c.if-not-is_stop.false in
-    let e : rest_wrote c.in-Written.n ≡ rest_answer (take a.size a.session.now) a.used.0 a.cycles.0 a.spare.now = sym (ap told_rest c.in-Written.is) ∙ c.rest-rested.ensures.0 in
-    (
+    let e : rest_wrote c.in-Written.n ≡ rest_answer (take a.size a.session.now) a.used.0 a.cycles.0 a.spare.now = sym (ap told_rest c.in-Written.is) ∙ c.rest-rested.ensures.0 in (
       ap (keeping (told_reply a.reply)) (written_stands had a.used.0 a.cycles.0 a.spare.now e a.session.now c.rest-rested.ensures.1 c.copy.ensures)
           ∙ keeps_had a.size a.session.now a.spare.now p.0 p.1 a.used.0 a.cycles.0 (told_reply a.reply) stopped (Written _) e,
       written_size a.size a.session.now a.spare.now p.0 p.1 a.used.0 a.cycles.0 e,
@@ -54,8 +53,7 @@ returns-in-Bad c =
     let a = c.args in
     let p = c.requires in
     let had = take a.size a.session.now in
-    let stopped : stops (told_reply a.reply).number ≡ true = sym c.is_stop.ensures ∙ c.if-not-is_stop.false in
-    (
+    let stopped : stops (told_reply a.reply).number ≡ true = sym c.is_stop.ensures ∙ c.if-not-is_stop.false in (
       ap (λ (t : Told). keeping t had) c.refusal.ensures
           ∙ keeps_had a.size a.session.now a.spare.now p.0 p.1 a.used.0 a.cycles.0 (told_reply a.reply) stopped (Bad c.in-Bad.fault) (sym (ap told_rest c.in-Bad.is) ∙ c.rest-rested.ensures.0),
       omega arith,

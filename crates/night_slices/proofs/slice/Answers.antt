@@ -11,11 +11,11 @@ after-requires g c =
     let l = c.watch_leaping-leapt in
     let h = c.requires in
     let sent : a.night.sent + l.result.ran.sent.0 ≤ length a.output.now =
-        sent_fits a.night l.result a.image.now a.area.now a.session.now a.output.now a.log.now l.ensures.0 c.slice_of.ensures
-        (take_rest a.night.sent a.output.now) (take_rest a.night.logged a.log.now) h.2 in
+    sent_fits a.night l.result a.image.now a.area.now a.session.now a.output.now a.log.now l.ensures.0 c.slice_of.ensures
+    (take_rest a.night.sent a.output.now) (take_rest a.night.logged a.log.now) h.2 in
     let logged : a.night.logged + logged_bytes a.night.watch l.result.ran.entries.0 ≤ length a.log.now =
-        logged_fits a.night l.result a.image.now a.area.now a.session.now a.output.now a.log.now l.ensures.0 c.slice_of.ensures
-        (take_rest a.night.sent a.output.now) (take_rest a.night.logged a.log.now) h.3 in
+    logged_fits a.night l.result a.image.now a.area.now a.session.now a.output.now a.log.now l.ensures.0 c.slice_of.ensures
+    (take_rest a.night.sent a.output.now) (take_rest a.night.logged a.log.now) h.3 in
     (fitting _ _ sent (omega arith), fitting _ _ logged (omega arith))
 
 pub returns : goal.returns
@@ -24,11 +24,11 @@ returns g c =
     let l = c.watch_leaping-leapt in
     let h = c.requires in
     let sent : a.night.sent + l.result.ran.sent.0 ≤ length a.output.now =
-        sent_fits a.night l.result a.image.now a.area.now a.session.now a.output.now a.log.now l.ensures.0 c.slice_of.ensures
-        (take_rest a.night.sent a.output.now) (take_rest a.night.logged a.log.now) h.2 in
+    sent_fits a.night l.result a.image.now a.area.now a.session.now a.output.now a.log.now l.ensures.0 c.slice_of.ensures
+    (take_rest a.night.sent a.output.now) (take_rest a.night.logged a.log.now) h.2 in
     let logged : a.night.logged + logged_bytes a.night.watch l.result.ran.entries.0 ≤ length a.log.now =
-        logged_fits a.night l.result a.image.now a.area.now a.session.now a.output.now a.log.now l.ensures.0 c.slice_of.ensures
-        (take_rest a.night.sent a.output.now) (take_rest a.night.logged a.log.now) h.3 in
+    logged_fits a.night l.result a.image.now a.area.now a.session.now a.output.now a.log.now l.ensures.0 c.slice_of.ensures
+    (take_rest a.night.sent a.output.now) (take_rest a.night.logged a.log.now) h.3 in
     let k = c.keep-kept in (
       sliced a.night l.result a.image.now a.area.now a.session.now a.output.now a.log.now l.ensures.0 c.slice_of.ensures
           (take_rest a.night.sent a.output.now) (take_rest a.night.logged a.log.now) l.ensures.1
