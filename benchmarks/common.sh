@@ -1,5 +1,5 @@
 # What measure.sh, growth.sh and listings.sh share: building, making an input, running a program and counting the instructions it executes.
-# Needs Debian's qemu-user (with plugins) and a C compiler; off x86-64 also gcc-x86-64-linux-gnu. `rt check bench` comes first.
+# Needs Debian's qemu-user (with plugins) and a C compiler; off x86-64 also gcc-x86-64-linux-gnu. The program is built by tools/launch.sh.
 here=$(cd "$(dirname "$0")" && pwd)
 root=$(dirname "$here")
 . "$root/tools/launch.sh"
@@ -7,11 +7,11 @@ work=${WORK:-$root/target/benchmarks}
 qemu=$(command -v qemu-x86_64)
 compiler=cc
 [ "$(uname -m)" = x86_64 ] || compiler=x86_64-linux-gnu-gcc
-ours="$loader --library-path $libraries $root/target/bin/bench"
+ours="$root/target/bin/bench"
 plain="$work/emulator"
 
 build() {
-  [ -x "$root/target/bin/bench" ] || { echo "target/bin/bench is missing: rt check bench" >&2; exit 1; }
+  prove bench
   build_counter
   $compiler -std=c11 -O2 -static -o "$work/emulator" "$here/emulator.c"
 }

@@ -3,7 +3,7 @@
 
     python3 benchmarks/compare.py [COUNT [SEED]]
 
-`rt check bench` and `rt check bench_cases` come first. The inputs go to bench_cases in batches (its answers are those of
+tools/launch.sh builds bench and bench_cases first (`sh tools/launch.sh NAME </dev/null`). The inputs go to bench_cases in batches (its answers are those of
 bench, by the same call), every fiftieth also to bench itself. A difference is printed with both lines, and its input is kept in
 target/benchmarks/; the last line says how many were compared and how many differ.
 """

@@ -1,9 +1,11 @@
 #!/bin/bash
 # How listing and assembling grow: x86-64 instructions executed, from a program's start to its end, on the last bytes of an image of pseudo-random bytes.
-#   rt check lister assembler && bash benchmarks/listings.sh
+#   bash benchmarks/listings.sh
 set -eu
 . "$(dirname "$0")/common.sh"
 build_counter
+prove lister
+prove assembler
 row() { printf '%-10s %8s %8s %14s %14s\n' "$@"; }
 python3 - "$work/image" <<'PYTHON'
 import sys
@@ -20,9 +22,9 @@ for program in lister assembler; do
   before= size=
   for n in 1024 4096 16384 65536; do
     set -- "$work/image" "$(printf '%X' $((65536 - n)))" FFFF
-    $qemu $loader --library-path "$libraries" "$root/target/bin/lister" "$@" >"$work/listing"
+    $qemu "$root/target/bin/lister" "$@" >"$work/listing"
     [ $program = lister ] || set -- "$work/listing" "$work/bytes"
-    executed=$(count /dev/null $loader --library-path "$libraries" "$root/target/bin/$program" "$@")
+    executed=$(count /dev/null "$root/target/bin/$program" "$@")
     row '' $n "$(wc -l <"$work/listing")" "$executed" "$(more "$executed" $n)"
     [ $program = lister ] || tail -c $n "$work/image" | cmp - "$work/bytes"
     before=$executed size=$n

@@ -3,7 +3,7 @@
 
     python3 tools/listing_assemblers.py [RANGES [SEED]]     prints for each assembler the opcodes or ranges, the bytes and how many ranges differ
 
-Needs dasm and crasm (apt-get install dasm crasm), and `rt check lister` done. Status 1 where a range differs. From each line of a listing columns 15
+Needs dasm and crasm (apt-get install dasm crasm), and lister built (`sh tools/launch.sh lister`). Status 1 where a range differs. From each line of a listing columns 15
 on are taken, behind a prelude that names the processor, FCB and the first address. First every opcode once; then so many random ranges of random
 images (300). Two things are known to differ, so a random image is mended before: an extended operand below $0100 of an opcode that has a direct twin,
 which both assemblers shorten, gets the high byte 01; a branch across $FFFF gets the offset FE. The last lines count what both make of those.

@@ -2,12 +2,12 @@
 # What a night asks of the area's file; faults at every system call of a first night, of a night with a log and of a recovery; clean-ups that are killed; two
 # nights at once; a call that is held while another night with other names commits. docs/NIGHT.md says what must hold.
 #   bash tools/night_faults.sh        some minutes; prints how many faults and how many bad, and each bad one; status 1 where one is bad
-# Needs strace, python3, and `rt check night` done. It works in a fresh folder under TMPDIR. Where the kit's emulator runs the program, which is not on
+# Needs strace, python3, and night built (`sh tools/launch.sh night`). It works in a fresh folder under TMPDIR. Where the kit's emulator runs the program, which is not on
 # x86-64, only calls of the program's own kinds are killed and failed: the emulator makes many of its own.
 set -u
 root=$(cd "$(dirname "$0")/.." && pwd)
 mapfile -t words < <(sh "$root/tools/launch.sh" --words)
-[ -x "$root/target/bin/night" ] && command -v strace >/dev/null || { echo "needs strace, and rt check night" >&2; exit 2; }
+[ -x "$root/target/bin/night" ] && command -v strace >/dev/null || { echo "needs strace, and sh tools/launch.sh night" >&2; exit 2; }
 room=$(mktemp -d) && trap 'rm -rf "$room"' EXIT
 cd "$room" && mkdir sets d || exit 2
 case $(uname -m) in                                                  # the call that renames, those that remove with how many a clean-up has, and all
