@@ -2,7 +2,7 @@
 # Builds the C example over the proved C calls, runs it, and compares what it prints with board/night.expected.
 #   sh board/run.sh
 # Needs the Rattle kit (`rt` on the PATH) and a C compiler for x86-64: cc on an x86-64 machine, elsewhere Debian's cross compiler
-# (apt-get install gcc-x86-64-linux-gnu libc6-dev-amd64-cross), whose program runs under the kit's emulator. CC=... names another compiler.
+# (apt-get install gcc-x86-64-linux-gnu libc6-dev-amd64-cross), whose program runs under an emulator. CC=... names another compiler.
 # Exit status: 0 as expected, 1 not, 2 the set-up is broken.
 set -eu
 root=$(cd "$(dirname "$0")/.." && pwd)
@@ -20,7 +20,7 @@ built=target/board
 mkdir -p "$built" target/staticlib
 cp crates/board_c/out/libboard_c.a target/staticlib/libboard.a
 "$compiler" -std=c99 -O2 -Wall -Wextra -Wpedantic -Werror -Iboard -o "$built/night" board/night.c target/staticlib/libboard.a
-# a compiler's own program: under the kit's loader and C library only where the machine has none for it
+# a compiler's own program: under an emulator where the machine is of another kind
 if [ "$(uname -m)" = x86_64 ]; then
     "$built/night" >"$built/night.out"
 else

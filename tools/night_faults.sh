@@ -2,8 +2,8 @@
 # What a night asks of the area's file; faults at every system call of a first night, of a night with a log and of a recovery; clean-ups that are killed; two
 # nights at once; a call that is held while another night with other names commits. docs/NIGHT.md says what must hold.
 #   bash tools/night_faults.sh        some minutes; prints how many faults and how many bad, and each bad one; status 1 where one is bad
-# Needs strace, python3, and night built (`sh tools/launch.sh night`). It works in a fresh folder under TMPDIR. Where the kit's emulator runs the program, which is not on
-# x86-64, only calls of the program's own kinds are killed and failed: the emulator makes many of its own.
+# Needs strace, python3, and night built (`sh tools/launch.sh night`). It works in a fresh folder under TMPDIR. Where an
+# emulator runs the program, which is not on x86-64, only calls of the program's own kinds are killed and failed: the emulator makes many of its own.
 set -u
 root=$(cd "$(dirname "$0")/.." && pwd)
 mapfile -t words < <(sh "$root/tools/launch.sh" --words)
