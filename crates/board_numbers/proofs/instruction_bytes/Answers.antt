@@ -5,4 +5,4 @@ use Rattle.board_numbers.proofs.instruction_bytes.Goals as goal
 
 pub returns : goal.returns
 unfolding instruction_bytes
-returns c = rw (c.operation_bytes-o.ensures, c.place_number.ensures) (three_then_lem c.args.i.operation _)
+returns c = rw (c.operation_bytes.ensures, c.place_number-place.ensures) (three_then_lem _ _)
