@@ -1,22 +1,9 @@
 // The assembler program: LISTING BYTES. It puts the bytes of a listing's text into the file BYTES, whole or not at all, and prints one line.
 #![tactic(auto)]
 
-ghost use Rattle.std.specs.Prelude.{◌≡◌, length};
-
 use assembling::Assembled;
 use std::fs::Files;
 use std::io::Result;
-
-fn refuse(rt: &impl Print, number: u8) {
-    lines::refused(number).text(b"\n").print(rt);
-}
-
-// Zeros for a text. A good one has at most 1,638,400 bytes, and a line is judged by its first 28: what is longer has its first bad line within these.
-fn text_buffer() -> [u8; 1638428]
-    ensures { 1638428 ≡ length result }
-{
-    [0; 1638428]
-}
 
 // The folder in which a file lies, open.
 fn open_home<R: Files>(rt: &R, name: &[u8]) -> Result<R::File> {
@@ -67,7 +54,7 @@ fn tell(rt: &(impl Files + Print), name: &[u8], bytes: &[u8], answer: Assembled)
     if keep(rt, name, bytes) {
         listing_answers::assembled_line(answer).print(rt);
     } else {
-        refuse(rt, 34);
+        lines::refuse(rt, 34);
     }
 }
 
@@ -83,13 +70,14 @@ fn assemble(rt: &(impl Files + Print), name: &[u8], text: &[u8]) {
 
 fn assemble_file(rt: &(impl Files + Print), listing: &[u8], name: &[u8]) {
     let Ok(mut file) = host::open(rt, listing) else {
-        refuse(rt, 33);
+        lines::refuse(rt, 33);
         return;
     };
-    let mut text = text_buffer();
+    // A good text has at most 1,638,400 bytes, and a line is judged by its first 28: what is longer has its first bad line within these.
+    let mut text = host::zeros::<1638428>();
     let n = host::read_full(&mut file, &mut text);
     if !host::is_read(&mut file, n == 1638428) {
-        refuse(rt, 33);
+        lines::refuse(rt, 33);
         return;
     }
     assemble(rt, name, &text[..n]);
@@ -101,7 +89,7 @@ fn main(rt: HostRuntime) {
     let mut name = io::buffer();
     let m = host::argument(&rt, 2, &mut name);
     if !host::has_argument(&rt, 2) | host::has_argument(&rt, 3) | (n == 0) | (m == 0) {
-        refuse(&rt, 32);
+        lines::refuse(&rt, 32);
         return;
     }
     assemble_file(&rt, &listing[..n], &name[..m]);

@@ -1,6 +1,7 @@
 // What reaches the system, by the bytes of a name or a text: standard output, streams that are read, arguments, files and folders.
 #![tactic(auto)]
 
+ghost use Rattle.std.specs.Prelude.{◌≡◌, length, replicate};
 ghost use Rattle.io.specs.Counts.{IsPrefixLen};
 
 use std::env::{Env, FillError};
@@ -14,6 +15,14 @@ pub enum Rest {
     Nothing,
     Something,
     Failed,
+}
+
+// A buffer of so many zeros.
+pub fn zeros<const N: usize>() -> [u8; N]
+    ensures length { N ≡ length result }
+    ensures value { result ≡ replicate N 0 }
+{
+    [0; N]
 }
 
 // Bytes to standard output. That they could not be written is not told.
@@ -42,11 +51,8 @@ pub fn read_full(from: &mut impl Read, buffer: &mut [u8]) -> usize
     let mut done = 0;
     while done < buffer.len() {
         match from.read(&mut buffer[done..]) {
-            Ok(0) => break,
-            Ok(n) => {
-                done += n;
-            }
-            Err(_) => break,
+            Ok(0) | Err(_) => break,
+            Ok(n) => done += n,
         }
     }
     done
@@ -75,28 +81,27 @@ pub fn is_read(from: &mut impl Read, full: bool) -> bool {
 pub fn argument(rt: &impl Env, i: usize, buffer: &mut [u8]) -> usize
     ensures { IsPrefixLen result buffer.new }
 {
-    match rt.arg(i, buffer) {
-        Ok(n) => n,
-        Err(_) => 0,
-    }
+    rt.arg(i, buffer).unwrap_or(0)
+}
+
+// What an argument is, by a function that reads its text. One that is missing or has more than 16 bytes is read as an empty one.
+pub fn argument_as<T, F: FnOnce(&[u8]) -> T>(rt: &impl Env, i: usize, read: F) -> T
+    requires { F.IsAlwaysCallable read }
+{
+    let mut text = [0u8; 16];
+    let n = argument(rt, i, &mut text);
+    read(&text[..n])
 }
 
 // Whether there is an argument with this number. The program's own name has 0.
 pub fn has_argument(rt: &impl Env, i: usize) -> bool {
     let mut byte = [0u8; 1];
-    match rt.arg(i, &mut byte) {
-        Ok(_) => true,
-        Err(FillError::TooLong) => true,
-        Err(FillError::NotPresent) => false,
-    }
+    !matches!(rt.arg(i, &mut byte), Err(FillError::NotPresent))
 }
 
 // A name as the system's text. One that is not UTF-8 names no file.
 fn path(name: &[u8]) -> Result<&str> {
-    match str::from_utf8(name) {
-        Ok(text) => Ok(text),
-        Err(_) => Err(Error::from(ErrorKind::InvalidFilename)),
-    }
+    str::from_utf8(name).map_err(|_| Error::from(ErrorKind::InvalidFilename))
 }
 
 // A file or a folder, open for reading.

@@ -107,3 +107,8 @@ pub fn refusal_line(reply: Reply) -> Line
     }
     refused(number)
 }
+
+// The refusal with this number is printed, as a line of its own.
+pub fn refuse(rt: &impl Print, number: u8) {
+    refused(number).text(b"\n").print(rt);
+}

@@ -1,54 +1,36 @@
 // The lister program: IMAGE FIRST LAST. It prints the listing of a range of the image, or one refusal.
 #![tactic(auto)]
 
-ghost use Rattle.std.specs.Prelude.{◌≡◌, length};
-
 use listing::Listed;
 use listing_arguments::Number;
 use std::env::Env;
 use std::fs::Files;
 
-fn refuse(rt: &impl Print, number: u8) {
-    lines::refused(number).text(b"\n").print(rt);
-}
-
-// Zeros for an image and a byte more, by which a longer file is known.
-fn image_buffer() -> [u8; 65537]
-    ensures { 65537 ≡ length result }
-{
-    [0; 65537]
-}
-
-// Zeros for the longest listing, 25 characters a byte.
-fn listing_buffer() -> [u8; 1638400]
-    ensures { 1638400 ≡ length result }
-{
-    [0; 1638400]
-}
-
 // The listing of a file's bytes.
 fn list(rt: &impl Print, image: &[u8], first: u32, last: u32) {
-    let mut buffer = listing_buffer();
+    // The longest listing has 25 characters a byte.
+    let mut buffer = host::zeros::<1638400>();
     let listed = listing::list(image, first, last, &mut buffer);
     match listed {
         Listed::Wrote(n) => {
             host::show(rt, asking::filled(&buffer, n));
         }
-        Listed::WrongImage => refuse(rt, 1),
-        Listed::WrongRange => refuse(rt, 22),
-        Listed::NoRoom => refuse(rt, 23),
+        Listed::WrongImage => lines::refuse(rt, 1),
+        Listed::WrongRange => lines::refuse(rt, 22),
+        Listed::NoRoom => lines::refuse(rt, 23),
     }
 }
 
 fn list_file(rt: &(impl Files + Print), name: &[u8], first: u32, last: u32) {
     let Ok(mut file) = host::open(rt, name) else {
-        refuse(rt, 33);
+        lines::refuse(rt, 33);
         return;
     };
-    let mut image = image_buffer();
+    // An image and a byte more, by which a longer file is known.
+    let mut image = host::zeros::<65537>();
     let n = host::read_full(&mut file, &mut image);
     if !host::is_read(&mut file, n == 65537) {
-        refuse(rt, 33);
+        lines::refuse(rt, 33);
         return;
     }
     list(rt, &image[..n], first, last);
@@ -67,15 +49,15 @@ fn main(rt: HostRuntime) {
     let from = number_at(&rt, 2);
     let to = number_at(&rt, 3);
     let Number::Is(first) = from else {
-        refuse(&rt, 32);
+        lines::refuse(&rt, 32);
         return;
     };
     let Number::Is(last) = to else {
-        refuse(&rt, 32);
+        lines::refuse(&rt, 32);
         return;
     };
     if !host::has_argument(&rt, 3) | host::has_argument(&rt, 4) | (n == 0) {
-        refuse(&rt, 32);
+        lines::refuse(&rt, 32);
         return;
     }
     list_file(&rt, &name[..n], first, last);

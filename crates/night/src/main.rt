@@ -2,7 +2,6 @@
 // slice and one for the night, and has night_commit put the new files in the old ones' places (docs/NIGHT.md).
 #![tactic(auto)]
 
-ghost use Rattle.std.specs.Prelude.{◌≡◌, length};
 ghost use Rattle.io.specs.Counts.{IsPrefixLen};
 
 use boundary::Watch;
@@ -39,17 +38,6 @@ struct Terms {
 enum Begun {
     From(Machine),
     Refused(u8),
-}
-
-fn refuse(rt: &impl Print, number: u8) {
-    lines::refused(number).text(b"\n").print(rt);
-}
-
-// 1,048,576 zeros, for a session or a log.
-fn zeros() -> [u8; 1048576]
-    ensures { 1048576 ≡ length result }
-{
-    [0; 1048576]
 }
 
 // What an open file held, by what is left to read of it behind so many bytes.
@@ -112,9 +100,9 @@ fn load(bytes: &[u8]) -> Begun {
 // The end of a call, in a number.
 fn tell(rt: &impl Print, end: Op) {
     match end {
-        Op::Refused(k) => refuse(rt, k),
-        Op::Stopped(k) => refuse(rt, k),
-        _ => refuse(rt, 34),
+        Op::Refused(k) => lines::refuse(rt, k),
+        Op::Stopped(k) => lines::refuse(rt, k),
+        _ => lines::refuse(rt, 34),
     }
 }
 
@@ -173,9 +161,9 @@ fn pass(
     terms: Terms,
     m: Machine,
 ) {
-    let mut spare = zeros();
+    let mut spare = host::zeros::<1048576>();
     let mut output = io::large_buffer();
-    let mut log = zeros();
+    let mut log = host::zeros::<1048576>();
     let watch = Watch {
         log: terms.log != 0,
         since: Cycles(0),
@@ -278,14 +266,14 @@ fn start(
     let refused = read_memories(rt, state_name, names, &mut image, &mut area);
     if refused != 0 {
         give_up(rt, state_name, names);
-        refuse(rt, refused);
+        lines::refuse(rt, refused);
         return;
     }
     let begun = begin(rt, state_name, &image, terms.r);
     match begun {
         Begun::Refused(k) => {
             give_up(rt, state_name, names);
-            refuse(rt, k);
+            lines::refuse(rt, k);
         }
         Begun::From(m) => pass(
             rt, state_name, names, &mut image, &mut area, session, size, terms, m,
@@ -301,13 +289,13 @@ fn run(
     names: &[u8],
     terms: Terms,
 ) {
-    let mut session = zeros();
+    let mut session = host::zeros::<1048576>();
     let held = read_file(rt, session_name, &mut session);
     match held {
         Held::Bytes(size) => start(rt, state_name, names, &mut session, size, terms),
         _ => {
             give_up(rt, state_name, names);
-            refuse(rt, 33);
+            lines::refuse(rt, 33);
         }
     }
 }
@@ -321,7 +309,7 @@ fn call(
     terms: Terms,
 ) {
     if night_commit::has_folder(rt, state_name, names) {
-        refuse(rt, 32);
+        lines::refuse(rt, 32);
         return;
     }
     let op = night_commit::prepare(rt, state_name);
@@ -346,7 +334,7 @@ fn call_logged(
     let mut log_name = io::buffer();
     let n = host::argument(rt, terms.log as usize, &mut log_name);
     if !night_names::is_further(&log_name[..n], session_name, state_name, names) {
-        refuse(rt, 32);
+        lines::refuse(rt, 32);
         return;
     }
     let mut buffer = io::buffer();
@@ -375,7 +363,7 @@ fn call_with_area(
     let mut name = io::buffer();
     let n = area_name(rt, terms.area, state_name, &mut name);
     if !night_names::is_area(&name[..n], session_name, state_name, names) {
-        refuse(rt, 32);
+        lines::refuse(rt, 32);
         return;
     }
     let mut buffer = io::buffer();
@@ -393,7 +381,7 @@ fn call_named(
     terms: Terms,
 ) {
     if !night_names::are_names(image_name, session_name, state_name, output_name) {
-        refuse(rt, 32);
+        lines::refuse(rt, 32);
         return;
     }
     let mut names = io::buffer();
@@ -414,11 +402,11 @@ fn read_names(rt: &(impl Files + Env + Print), first: u8, area: u8, log: u8) {
     let n = number_at(rt, at + 2);
     let r = number_at(rt, at + 3);
     let Number::Is(cycles) = n else {
-        refuse(rt, 32);
+        lines::refuse(rt, 32);
         return;
     };
     let Number::Is(start) = r else {
-        refuse(rt, 32);
+        lines::refuse(rt, 32);
         return;
     };
     let mut image = io::buffer();
@@ -471,7 +459,7 @@ fn main(rt: HostRuntime) {
     let mut values = [0u8; 2];
     let first = night_arguments::read_call(cabinet::filled(&kinds, n), &mut values);
     if first == 0 {
-        refuse(&rt, 32);
+        lines::refuse(&rt, 32);
         return;
     }
     read_names(&rt, first, values[0], values[1]);

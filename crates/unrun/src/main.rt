@@ -1,32 +1,20 @@
 // The unrun program: MAP FIRST LAST. It prints the first address of a range at which no instruction began, `none`, or one refusal.
 #![tactic(auto)]
 
-ghost use Rattle.std.specs.Prelude.{◌≡◌, length};
-
 use listing_arguments::Number;
 use std::env::Env;
 use std::fs::Files;
 
-fn refuse(rt: &impl Print, number: u8) {
-    lines::refused(number).text(b"\n").print(rt);
-}
-
-// Zeros for a map's file and a byte more, by which a longer file is known.
-fn map_buffer() -> [u8; 8197]
-    ensures { 8197 ≡ length result }
-{
-    [0; 8197]
-}
-
 fn search_file(rt: &(impl Files + Print), name: &[u8], first: u16, last: u16) {
     let Ok(mut opened) = host::open(rt, name) else {
-        refuse(rt, 33);
+        lines::refuse(rt, 33);
         return;
     };
-    let mut file = map_buffer();
+    // A map's file and a byte more, by which a longer file is known.
+    let mut file = host::zeros::<8197>();
     let n = host::read_full(&mut opened, &mut file);
     if !host::is_read(&mut opened, n == 8197) {
-        refuse(rt, 33);
+        lines::refuse(rt, 33);
         return;
     }
     unrun_lines::unrun_line(&file[..n], first, last).print(rt);
@@ -45,23 +33,23 @@ fn main(rt: HostRuntime) {
     let from = number_at(&rt, 2);
     let to = number_at(&rt, 3);
     let Number::Is(first) = from else {
-        refuse(&rt, 32);
+        lines::refuse(&rt, 32);
         return;
     };
     let Number::Is(last) = to else {
-        refuse(&rt, 32);
+        lines::refuse(&rt, 32);
         return;
     };
     if !host::has_argument(&rt, 3) | host::has_argument(&rt, 4) | (n == 0) {
-        refuse(&rt, 32);
+        lines::refuse(&rt, 32);
         return;
     }
     if first > 65535 {
-        refuse(&rt, 32);
+        lines::refuse(&rt, 32);
         return;
     }
     if last > 65535 {
-        refuse(&rt, 32);
+        lines::refuse(&rt, 32);
         return;
     }
     search_file(&rt, &name[..n], first as u16, last as u16);

@@ -1,21 +1,8 @@
 // The wakes program: LOG. It prints a line for each row of a wake log, or one refusal.
 #![tactic(auto)]
 
-ghost use Rattle.std.specs.Prelude.{◌≡◌, length};
-
 use host::Rest;
 use std::fs::Files;
-
-fn refuse(rt: &impl Print, number: u8) {
-    lines::refused(number).text(b"\n").print(rt);
-}
-
-// 1,048,576 zeros, for a log.
-fn log_buffer() -> [u8; 1048576]
-    ensures { 1048576 ≡ length result }
-{
-    [0; 1048576]
-}
 
 // Of an open file of which so many bytes were read: 0, or the number of a refusal.
 fn verdict(follows: Rest, count: usize) -> u8 {
@@ -51,14 +38,14 @@ fn tell(rt: &impl Print, log: &[u8], rows: u32) {
 
 fn read_log(rt: &(impl Files + Print), name: &[u8]) {
     let Ok(mut file) = host::open(rt, name) else {
-        refuse(rt, 33);
+        lines::refuse(rt, 33);
         return;
     };
-    let mut log = log_buffer();
+    let mut log = host::zeros::<1048576>();
     let count = host::read_full(&mut file, &mut log);
     let number = verdict(host::what_follows(&mut file), count);
     if number != 0 {
-        refuse(rt, number);
+        lines::refuse(rt, number);
         return;
     }
     tell(rt, &log, (count / 8) as u32);
@@ -66,13 +53,13 @@ fn read_log(rt: &(impl Files + Print), name: &[u8]) {
 
 fn main(rt: HostRuntime) {
     if !host::has_argument(&rt, 1) | host::has_argument(&rt, 2) {
-        refuse(&rt, 32);
+        lines::refuse(&rt, 32);
         return;
     }
     let mut name = io::buffer();
     let n = host::argument(&rt, 1, &mut name);
     if n == 0 {
-        refuse(&rt, 32);
+        lines::refuse(&rt, 32);
         return;
     }
     read_log(&rt, &name[..n]);

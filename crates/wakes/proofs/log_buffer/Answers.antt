@@ -1,8 +1,0 @@
--- `wakes::log_buffer` meets its contract: so many zeros. Assumes nothing.
-use Prim.Native.Nat.{ℕ}
-use mathlib.Core.Path.{sym}
-use lib.ListN.{length-replicate}
-use Rattle.wakes.proofs.log_buffer.Goals as goal
-
-pub returns : goal.returns
-returns c = sym (length-replicate {A = ℕ} 1048576 0)
