@@ -6,7 +6,7 @@ use Rattle.bits.specs.Bits.{weight}
 use Rattle.opcodes.specs.declared.Dyadic.TheVariants.{Adc, Add}
 use Rattle.arithmetic.specs.Results.{add_with_of, add_of, dyadic_of, daa_of}
 use Rattle.arithmetic.specs.declared.Codes.{Codes}
-use Rattle.arithmetic.specs.declared.Byte.{Byte}
+use Rattle.arithmetic.specs.declared.Outcome.{Outcome}
 
 -- the byte of a number's two digits
 abbrev pub digits : ℕ → ℕ
@@ -18,7 +18,7 @@ pub record Adjusted : Type 0 where
   c : Bool
 
 -- .. after DAA of a result
-abbrev pub adjusted : Byte → Adjusted
+abbrev pub adjusted : Outcome ℕ → Adjusted
 adjusted s = let d = daa_of s.value s.codes in record { a = d.value; c = d.codes.c }
 
 -- .. by the numbers' own sum, with one more or not

@@ -4,10 +4,10 @@
 ghost use Rattle.std.specs.Prelude.{◌≡◌, take};
 ghost use Rattle.asking.specs.Asking.{told_decoded, opcode_answer};
 
-use opcodes::Decoded;
+use opcodes::Instruction;
 
 // One opcode's operation, operand place, length and cycles, or that it is undefined.
-pub fn ask(opcode: u8) -> Decoded
+pub fn ask(opcode: u8) -> Option<Instruction>
     ensures { told_decoded result ≡ opcode_answer opcode }
 {
     opcodes::decode(opcode)

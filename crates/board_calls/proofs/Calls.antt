@@ -14,8 +14,7 @@ use Rattle.session.specs.Session.{fault_number}
 use Rattle.replies.specs.declared.Reply.{Reply}
 use Rattle.replies.specs.Replies.{Told, told_reply, told_fault}
 use Rattle.opcodes.specs.declared.Instruction.{Instruction}
-use Rattle.opcodes.specs.declared.Decoded.{Decoded}
-use Rattle.opcodes.specs.declared.Decoded.TheVariants.{Defined}
+use Rattle.std.specs.Prelude.{Option, Some}
 use Rattle.machine.specs.declared.Machine.{Machine}
 use Rattle.machine.specs.declared.Power.{Power}
 use Rattle.asking.specs.Asking.{told_decoded, opcode_answer}
@@ -50,17 +49,17 @@ module _ (opcode : ℕ) (answer : List ℕ) where
   unfolding ask_call
   ask_short h = sym (picks _ _ (lt-ltb _ _ h))
 
-  pub asked : {d : Decoded} (i : Decoded) → 6 ≤ length answer → told_decoded d ≡ opcode_answer opcode → d ≡ i
+  pub asked : {d : Option Instruction} (i : Option Instruction) → 6 ≤ length answer → told_decoded d ≡ opcode_answer opcode → d ≡ i
       → on_ask answer (told_decoded i) ≡ ask_call opcode answer
   unfolding ask_call
   asked i h e f = sym (passes _ _ (le-ltb _ _ h) ∙ ap (on_ask answer) (sym e ∙ ap told_decoded f))
 
   -- an instruction's six numbers, copied into the answer
-  pub asked_copied : {d : Decoded} (i : Instruction) {six left : List ℕ} → 6 ≤ length answer → told_decoded d ≡ opcode_answer opcode → d ≡ Defined i
+  pub asked_copied : {d : Option Instruction} (i : Instruction) {six left : List ℕ} → 6 ≤ length answer → told_decoded d ≡ opcode_answer opcode → d ≡ Some i
       → six ≡ instruction_bytes i → left ≡ take (length six) six ++ drop (length six) answer → wrote 0 left ≡ ask_call opcode answer
   asked_copied i {six} h e f g l =
       let whole = ap (λ (b : List ℕ). b ++ drop (length six) answer) (take_all (length six) six (omega arith)) in
-      ap (wrote 0) (l ∙ whole ∙ ap (λ (b : List ℕ). over b answer) g) ∙ asked (Defined i) h e f
+      ap (wrote 0) (l ∙ whole ∙ ap (λ (b : List ℕ). over b answer) g) ∙ asked (Some i) h e f
 
 -- the rest of a session
 module _ (session : List ℕ) (used cycles : ℕ) (buffer result : List ℕ) where

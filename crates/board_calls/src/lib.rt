@@ -8,7 +8,7 @@ ghost use Rattle.board_calls.specs.Calls.{wrote, power_call, ask_call, rest_call
 
 use counts::{Cycles, Records};
 use machine::Power;
-use opcodes::Decoded;
+use opcodes::Instruction;
 use rest::Rested;
 
 // Power-on into a saved machine.
@@ -38,8 +38,8 @@ pub fn ask(opcode: u8, answer: &mut [u8]) -> u32
     }
     let decoded = asking::ask(opcode);
     match decoded {
-        Decoded::Undefined => 8,
-        Decoded::Defined(i) => {
+        None => 8,
+        Some(i) => {
             let six = board_numbers::instruction_bytes(i);
             numbers::copy(&six, answer);
             0

@@ -15,7 +15,7 @@ ghost use Rattle.cabinet.specs.Answers.{report_of, answered, answer_of, leaps_of
 use boundary::{State, Stop, Watch};
 use counts::{Cycles, Entries, Instructions, Leaps, Records, Sent};
 use machine::{Machine, Power};
-use opcodes::Decoded;
+use opcodes::Instruction;
 use replies::Reply;
 use session::Checked;
 
@@ -301,7 +301,7 @@ pub fn run_leaping(
 }
 
 // One opcode's operation, operand place, length and cycles, or that it is undefined.
-pub fn ask(opcode: u8) -> Decoded
+pub fn ask(opcode: u8) -> Option<Instruction>
     ensures { told_decoded result ≡ opcode_answer opcode }
 {
     asking::ask(opcode)

@@ -24,8 +24,7 @@ use Rattle.arithmetic.proofs.HalfCarry.{dyadic_half, monadic_half, moved_half, m
 use Rattle.registers.specs.declared.Registers.{Registers}
 use Rattle.registers.specs.Registers.{with_pc}
 use Rattle.registers.proofs.HalfCarry.{internal_half, wide_half}
-use Rattle.operations.specs.declared.Target.{Target}
-use Rattle.operations.specs.declared.Target.TheVariants.{In, Memory}
+use Rattle.std.specs.Prelude.{Option, None, Some}
 use Rattle.operations.specs.Shapes.{target_of}
 use Rattle.operations.specs.Operations.{branch}
 use Rattle.bus.specs.Access.{Memories}
@@ -59,15 +58,15 @@ not_adc : (op : Dyadic) (acc : Accumulator) → (Among (operations.Dyadic op acc
 not_adc op A n e = n (inr (inr (inl (ap (λ (o : Dyadic). operations.Dyadic o A) e))))
 not_adc op B n e = n (inr (inr (inr (inl (ap (λ (o : Dyadic). operations.Dyadic o B) e)))))
 
-monadic_keeps : (op : Monadic) (target : Target) (at : ℕ) (c : Registers) → KeepsHalf c (monadic op target at c)
+monadic_keeps : (op : Monadic) (target : Option Accumulator) (at : ℕ) (c : Registers) → KeepsHalf c (monadic op target at c)
 unfolding monadic run read write ◌>>=◌
-monadic_keeps op (In acc) at c b m = monadic_half op _ _
-monadic_keeps op Memory at c b m = monadic_half op _ _
+monadic_keeps op (Some acc) at c b m = monadic_half op _ _
+monadic_keeps op None at c b m = monadic_half op _ _
 
-tst_keeps : (target : Target) (at : ℕ) (c : Registers) → KeepsHalf c (tst target at c)
+tst_keeps : (target : Option Accumulator) (at : ℕ) (c : Registers) → KeepsHalf c (tst target at c)
 unfolding tst run read ◌>>=◌
-tst_keeps (In acc) at c b m = tested_half _ _
-tst_keeps Memory at c b m = tested_half _ _
+tst_keeps (Some acc) at c b m = tested_half _ _
+tst_keeps None at c b m = tested_half _ _
 
 branch_keeps : (test : Branch) (at : ℕ) (c : Registers) → (branch test at c).codes.h ≡ c.codes.h
 branch_keeps test at c = by (taken_of test c.codes)

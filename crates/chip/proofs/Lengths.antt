@@ -4,7 +4,7 @@ use native.Mathlib.Omega.{arith}
 use mathlib.Core.Path.{◌≡◌, refl, ap, sym, ◌∙◌}
 use Rattle.bits.specs.Words.{up}
 use Rattle.opcodes.specs.declared.Instruction.{Instruction}
-use Rattle.opcodes.specs.declared.Decoded.TheVariants.{Defined}
+use Rattle.std.specs.Prelude.{Some}
 use Rattle.opcodes.specs.declared.Place.{Place}
 use Rattle.opcodes.specs.declared.Place.TheVariants.{Inherent, AccumulatorA, AccumulatorB, ImmediateByte, ImmediateWord, Direct, Indexed, Extended, Relative}
 use Rattle.opcodes.specs.Opcodes.{decode_of}
@@ -35,6 +35,6 @@ past_operand Extended c b m = ap (with_pc c) (round c.pc 2)
 past_operand Relative c b m = ap (with_pc c) (round c.pc 1)
 
 -- .. which are as many as the table's length
-pub past_instruction : (opcode : ℕ) (i : Instruction) → decode_of opcode ≡ Defined i → (c : Registers) (b : Moment) (m : Memories)
+pub past_instruction : (opcode : ℕ) (i : Instruction) → decode_of opcode ≡ Some i → (c : Registers) (b : Moment) (m : Memories)
     → (run (operand i.place (with_pc c (up c.pc 1))) b m).value.registers ≡ with_pc c (up c.pc i.length)
 past_instruction opcode i e c b m = past_operand i.place c b m ∙ ap (λ (n : ℕ). with_pc c (up c.pc n)) (sym (fits opcode i e).0)

@@ -8,7 +8,7 @@ use mathlib.Core.Path.{◌≡◌, subst⁻¹}
 use Rattle.opcodes.specs.declared.Operation.{Operation}
 use Rattle.opcodes.specs.declared.Operation.TheVariants as operations
 use Rattle.opcodes.specs.declared.Instruction.{Instruction}
-use Rattle.opcodes.specs.declared.Decoded.TheVariants.{Defined}
+use Rattle.std.specs.Prelude.{Some}
 use Rattle.opcodes.specs.declared.Place.{Place}
 use Rattle.opcodes.specs.Opcodes.{decode_of}
 use Rattle.opcodes.specs.Fits.{places_of, Among}
@@ -96,7 +96,7 @@ each operations.Swi place (inr h) = absurd h
 each operations.Wai place (inl e) = at operations.Wai e (λ c l n _. tt)
 each operations.Wai place (inr h) = absurd h
 
-pub instruction_listed : (opcode : ℕ) (i : Instruction) → decode_of opcode ≡ Defined i → (c : Registers)
+pub instruction_listed : (opcode : ℕ) (i : Instruction) → decode_of opcode ≡ Some i → (c : Registers)
     → Makes (access_cycles i.operation i.place) (execute i c)
 instruction_listed opcode i e c = each i.operation i.place (fits opcode i e).1 c i.length i.cycles
 

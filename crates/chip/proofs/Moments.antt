@@ -7,7 +7,7 @@ use mathlib.Core.List.{List, [], ◌∷◌}
 use mathlib.Core.Path.{◌≡◌}
 use lib.Dec.{T, ltb, ltb→lt}
 use Rattle.opcodes.specs.declared.Instruction.{Instruction}
-use Rattle.opcodes.specs.declared.Decoded.TheVariants.{Defined}
+use Rattle.std.specs.Prelude.{Some}
 use Rattle.opcodes.specs.Opcodes.{decode_of}
 use Rattle.opcodes.proofs.Table.{both}
 use Rattle.timing.specs.Table.{access_cycles, entry_accesses}
@@ -53,7 +53,7 @@ within n c (k ∷ ks) (writing at v t) b m h l =
     let p = h.0 in
     within n (c + (k - 1 - c)) ks t (write_of at v (passed (k - 1 - c) b)) (stored_at at v (moment b c (k ∷ ks)) m) h.1 (omega arith)
 
-module _ (opcode : ℕ) (i : Instruction) (e : decode_of opcode ≡ Defined i) (c : Registers) (b : Bus) (m : Memories) where
+module _ (opcode : ℕ) (i : Instruction) (e : decode_of opcode ≡ Some i) (c : Registers) (b : Bus) (m : Memories) where
   pub instruction_meets : Meets (access_cycles i.operation i.place) (execute i c) (begun (access_cycles i.operation i.place) b) m
   instruction_meets = meets (access_cycles i.operation i.place) 0 i.cycles 0 (execute i c) b m (rising opcode i e) (omega arith)
 

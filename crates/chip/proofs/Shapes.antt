@@ -6,8 +6,8 @@ use Rattle.opcodes.specs.declared.Operation.{Operation}
 use Rattle.opcodes.specs.declared.Operation.TheVariants as operations
 use Rattle.opcodes.specs.declared.Place.{Place}
 use Rattle.registers.specs.declared.Registers.{Registers}
-use Rattle.operations.specs.declared.Target.{Target}
-use Rattle.operations.specs.declared.Target.TheVariants.{In, Memory}
+use Rattle.std.specs.Prelude.{Option, None, Some}
+use Rattle.opcodes.specs.declared.Accumulator.{Accumulator}
 use Rattle.operations.specs.declared.Shape.{Shape}
 use Rattle.operations.specs.Shapes.{target_of, monadic_shape, tst_shape, shape_of}
 use Rattle.operations.specs.Operations.{quiet_of, load_at, loaded_of, load_word_at, loaded_word_of}
@@ -19,15 +19,15 @@ use Rattle.chip.specs.Instructions.{read2, dyadic, monadic, tst, sta, wide, wide
 use Rattle.chip.specs.Instructions.{jsr, rts, operate}
 use Rattle.chip.specs.Shapes.{loads, loads_word, stores, stores_word, modifies, pushes_word, shaped}
 
-monadic_shaped : (op : Monadic) (target : Target) (at : ℕ) (c : Registers) → monadic op target at c ≡ shaped (monadic_shape op target) at c
+monadic_shaped : (op : Monadic) (target : Option Accumulator) (at : ℕ) (c : Registers) → monadic op target at c ≡ shaped (monadic_shape op target) at c
 unfolding monadic shaped quiet_of modifies
-monadic_shaped op (In acc) at c = refl
-monadic_shaped op Memory at c = refl
+monadic_shaped op (Some acc) at c = refl
+monadic_shaped op None at c = refl
 
-tst_shaped : (target : Target) (at : ℕ) (c : Registers) → tst target at c ≡ shaped (tst_shape target) at c
+tst_shaped : (target : Option Accumulator) (at : ℕ) (c : Registers) → tst target at c ≡ shaped (tst_shape target) at c
 unfolding tst shaped quiet_of loads load_at loaded_of
-tst_shaped (In acc) at c = refl
-tst_shaped Memory at c = refl
+tst_shaped (Some acc) at c = refl
+tst_shaped None at c = refl
 
 pub operation_shaped : (op : Operation) (place : Place) (at : ℕ) (c : Registers) → operate op place at c ≡ shaped (shape_of op place) at c
 unfolding operate shape_of shaped quiet_of loads load_at loaded_of loads_word load_word_at loaded_word_of stores store_at store_byte stored_then stores_word

@@ -1,6 +1,6 @@
 -- The instructions: where the operand is, and what each operation does with it, access by access in 01's order.
 -- 01: "Two-byte accesses go high byte first (pushed ones low first), each with its own effects."
-use Rattle.std.specs.Prelude.{ℕ, true, false, cond}
+use Rattle.std.specs.Prelude.{ℕ, true, false, cond, Option, None, Some}
 use Rattle.bits.specs.Words.{high, low, paired, up, down}
 use Rattle.tables.specs.Tables.{vector_of}
 use Rattle.tables.specs.declared.Vector.TheVariants.{Swi}
@@ -18,8 +18,6 @@ use Rattle.opcodes.specs.declared.Instruction.{Instruction}
 use Rattle.arithmetic.specs.Codes.{codes_byte, codes_of}
 use Rattle.arithmetic.specs.Results.{dyadic_of, monadic_of, tested_of, moved_of, moved16_of}
 use Rattle.registers.specs.declared.Registers.{Registers}
-use Rattle.operations.specs.declared.Target.{Target}
-use Rattle.operations.specs.declared.Target.TheVariants.{In, Memory}
 use Rattle.operations.specs.Shapes.{target_of}
 use Rattle.operations.specs.Operations.{branch}
 use Rattle.chip.specs.Act.{Act, Act.done, read, write, ◌>>=◌, ◌>>◌}
@@ -72,17 +70,17 @@ dyadic op acc at c = do
   done (result_in acc c (dyadic_of op (accumulator acc c) v c.codes))
 
 -- NEG COM LSR ROR ASR ASL ROL DEC INC CLR: "CLR on memory reads first"
-unfoldable pub monadic : Monadic → Target → ℕ → Registers → Act Registers
-monadic op (In acc) at c = done (result_in acc c (monadic_of op (accumulator acc c) c.codes))
-monadic op Memory at c = do
+unfoldable pub monadic : Monadic → Option Accumulator → ℕ → Registers → Act Registers
+monadic op (Some acc) at c = done (result_in acc c (monadic_of op (accumulator acc c) c.codes))
+monadic op None at c = do
   v ← read at
   write at (monadic_of op v c.codes).value
   done (with_codes c (monadic_of op v c.codes).codes)
 
 -- TST does not write
-unfoldable pub tst : Target → ℕ → Registers → Act Registers
-tst (In acc) at c = done (with_codes c (tested_of (accumulator acc c) c.codes))
-tst Memory at c = do
+unfoldable pub tst : Option Accumulator → ℕ → Registers → Act Registers
+tst (Some acc) at c = done (with_codes c (tested_of (accumulator acc c) c.codes))
+tst None at c = do
   v ← read at
   done (with_codes c (tested_of v c.codes))
 

@@ -15,8 +15,7 @@ use Rattle.laws.proofs.Lists.{sets_append}
 use Rattle.numbers.proofs.Laws.{sets_over}
 use Rattle.opcodes.specs.Opcodes.{decode_of}
 use Rattle.opcodes.specs.declared.Instruction.{Instruction}
-use Rattle.opcodes.specs.declared.Decoded.{Decoded}
-use Rattle.opcodes.specs.declared.Decoded.TheVariants.{Undefined, Defined}
+use Rattle.std.specs.Prelude.{Option, None, Some}
 use Rattle.opcodes.proofs.Bounds.{bounds}
 use Rattle.asking.specs.Asking.{Given, gives, replies}
 use Rattle.listing_lines.specs.Lines.{bytes_of, item_line}
@@ -24,24 +23,24 @@ use Rattle.listing.specs.Listing.{image_byte, fitting_in, shown_at, line_at, lis
 use Rattle.listing.specs.Listing.{is_bad_range, list_answer, listed_buffer, list_buffer}
 
 -- an instruction that the range's end cuts off
-abbrev pub CutOff : Decoded → ℕ → Type 0
-CutOff Undefined room = ⊥
-CutOff (Defined i) room = room < i.length
+abbrev pub CutOff : Option Instruction → ℕ → Type 0
+CutOff None room = ⊥
+CutOff (Some i) room = room < i.length
 
 -- what is listed is a data byte, the opcode being undefined or cut off, or the instruction that it means, all of whose bytes are in the range
-pub data Item (decoded : Decoded) (room : ℕ) : Decoded → Type 0 where
-  data_byte : (decoded ≡ Undefined) ⊎ CutOff decoded room → Item decoded room Undefined
-  whole : (i : Instruction) → decoded ≡ Defined i → i.length ≤ room → Item decoded room (Defined i)
+pub data Item (decoded : Option Instruction) (room : ℕ) : Option Instruction → Type 0 where
+  data_byte : (decoded ≡ None) ⊎ CutOff decoded room → Item decoded room None
+  whole : (i : Instruction) → decoded ≡ Some i → i.length ≤ room → Item decoded room (Some i)
 
-item : (decoded : Decoded) (room : ℕ) → Item decoded room (fitting_in room decoded)
-item Undefined room = data_byte (inl refl)
-item (Defined i) room = by (ltb room i.length) refl
+item : (decoded : Option Instruction) (room : ℕ) → Item decoded room (fitting_in room decoded)
+item None room = data_byte (inl refl)
+item (Some i) room = by (ltb room i.length) refl
   where
-    by : (t : Bool) → ltb room i.length ≡ t → Item (Defined i) room (cond t Undefined (Defined i))
+    by : (t : Bool) → ltb room i.length ≡ t → Item (Some i) room (cond t None (Some i))
     by true e = data_byte (inr (ltb-true room i.length e))
     by false e = whole i refl (ltb-false room i.length e)
 
-item_bounds : (opcode room : ℕ) {shown : Decoded} → 1 ≤ room → Item (decode_of opcode) room shown
+item_bounds : (opcode room : ℕ) {shown : Option Instruction} → 1 ≤ room → Item (decode_of opcode) room shown
     → (1 ≤ bytes_of shown) × (bytes_of shown ≤ 3) × (bytes_of shown ≤ room)
 item_bounds opcode room h (data_byte _) = (omega arith, omega arith, h)
 item_bounds opcode room h (whole i e l) = let b = bounds opcode i e in (b.0.0, b.0.1, l)
@@ -59,7 +58,7 @@ module _ (image : List ℕ) (last : ℕ) where
       let b = item_bounds (image_byte image address) (last + 1 - address) (omega arith) (item_at address) in
       (b.0, b.1, omega (arith, b.2))
 
-  pub shown_bounds : (address : ℕ) {shown : Decoded} → address ≤ last → shown ≡ shown_at image last address
+  pub shown_bounds : (address : ℕ) {shown : Option Instruction} → address ≤ last → shown ≡ shown_at image last address
       → (shown ≡ shown_at image last address) × (1 ≤ bytes_of shown) × (bytes_of shown ≤ 3) × (address + bytes_of shown ≤ last + 1)
   unfolding listed_bytes
   shown_bounds address h e = let b = bytes_bounds address h in (e, rw e b.0, rw e b.1, rw e b.2)
@@ -104,7 +103,7 @@ module _ (image : List ℕ) (last : ℕ) where
     pub wide : bytes ≡ listed_bytes image last address
 
   -- .. of what was found there
-  pub found : (address : ℕ) {size bytes : ℕ} {shown : Decoded} → address ≤ last → shown ≡ shown_at image last address → bytes ≡ bytes_of shown
+  pub found : (address : ℕ) {size bytes : ℕ} {shown : Option Instruction} → address ≤ last → shown ≡ shown_at image last address → bytes ≡ bytes_of shown
       → let line = item_line address shown (image_byte image address) (image_byte image (address + 1)) (image_byte image (address + 2)) in
       length line ≡ size → Turn address size bytes line
   unfolding line_at listed_bytes

@@ -1,9 +1,8 @@
 -- The listing of a range of an image, one line after the other, and what the call `list` answers and leaves for all inputs.
-use Rattle.std.specs.Prelude.{ℕ, zero, suc, ◌+◌, ◌-◌, List, [], ◌++◌, Bool, cond, not, ◌||◌, ltb, eqb, get_or, length}
+use Rattle.std.specs.Prelude.{ℕ, zero, suc, ◌+◌, ◌-◌, List, [], ◌++◌, Bool, cond, not, ◌||◌, ltb, eqb, get_or, length, Option, None, Some}
 use Rattle.numbers.specs.Numbers.{over}
 use Rattle.opcodes.specs.Opcodes.{decode_of}
-use Rattle.opcodes.specs.declared.Decoded.{Decoded}
-use Rattle.opcodes.specs.declared.Decoded.TheVariants.{Undefined, Defined}
+use Rattle.opcodes.specs.declared.Instruction.{Instruction}
 use Rattle.asking.specs.Asking.{Given, gives, replies}
 use Rattle.listing_lines.specs.Lines.{bytes_of, item_line}
 use Rattle.listing.specs.declared.Listed.{Listed}
@@ -14,12 +13,12 @@ abbrev pub image_byte : List ℕ → ℕ → ℕ
 image_byte image address = get_or image address 0
 
 -- "an undefined opcode, or one cut off by the range's end, is listed as a data byte"
-abbrev pub fitting_in : ℕ → Decoded → Decoded
-fitting_in room Undefined = Undefined
-fitting_in room (Defined i) = cond (ltb room i.length) Undefined (Defined i)
+abbrev pub fitting_in : ℕ → Option Instruction → Option Instruction
+fitting_in room None = None
+fitting_in room (Some i) = cond (ltb room i.length) None (Some i)
 
 -- what is listed at an address of a range that ends with `last`, its line and its bytes
-unfoldable pub shown_at : List ℕ → ℕ → ℕ → Decoded
+unfoldable pub shown_at : List ℕ → ℕ → ℕ → Option Instruction
 shown_at image last address = fitting_in (last + 1 - address) (decode_of (image_byte image address))
 
 unfoldable pub line_at : List ℕ → ℕ → ℕ → List ℕ

@@ -7,7 +7,7 @@ ghost use Rattle.listing_lines.specs.Lines.{bytes_of, item_line};
 ghost use Rattle.listing.specs.Listing.{image_byte, fitting_in, shown_at, listing_from, told_listed, list_answer, list_buffer};
 
 use listing_lines::Text;
-use opcodes::Decoded;
+use opcodes::Instruction;
 
 // The listing was written and is so many characters long; or the image is not 65,536 bytes; or the range goes past $FFFF or backward; or the buffer is
 // shorter than the listing.
@@ -31,21 +31,21 @@ fn byte_at(image: &[u8], address: usize) -> u8
 }
 
 // An instruction that is cut off is data.
-fn fitting(decoded: Decoded, room: usize) -> Decoded
+fn fitting(decoded: Option<Instruction>, room: usize) -> Option<Instruction>
     ensures { result ≡ fitting_in room decoded }
 {
     match decoded {
-        Decoded::Undefined => Decoded::Undefined,
-        Decoded::Defined(i) => if room < i.length as usize {
-            Decoded::Undefined
+        None => None,
+        Some(i) => if room < i.length as usize {
+            None
         } else {
-            Decoded::Defined(i)
+            Some(i)
         },
     }
 }
 
 // What is listed at an address.
-pub fn shown_at(image: &[u8], last: usize, address: usize) -> Decoded
+pub fn shown_at(image: &[u8], last: usize, address: usize) -> Option<Instruction>
     requires { (address ≤ last) × (last < 65536) }
     ensures { (result ≡ shown_at image.now last address)
         × (1 ≤ bytes_of result) × (bytes_of result ≤ 3) × (address + bytes_of result ≤ last + 1) }
@@ -53,17 +53,17 @@ pub fn shown_at(image: &[u8], last: usize, address: usize) -> Decoded
     fitting(opcodes::decode(byte_at(image, address)), last + 1 - address)
 }
 
-pub fn bytes_of(shown: Decoded) -> u8
+pub fn bytes_of(shown: Option<Instruction>) -> u8
     ensures { result ≡ bytes_of shown }
 {
     match shown {
-        Decoded::Undefined => 1,
-        Decoded::Defined(i) => i.length,
+        None => 1,
+        Some(i) => i.length,
     }
 }
 
 // The line of what is listed at an address.
-pub fn line_at(image: &[u8], address: usize, shown: Decoded) -> Text
+pub fn line_at(image: &[u8], address: usize, shown: Option<Instruction>) -> Text
     requires { (address < 65536) × (1 ≤ bytes_of shown) × (bytes_of shown ≤ 3) }
     ensures { let b = image_byte image.now in
         let line = item_line address shown (b address) (b (address + 1)) (b (address + 2)) in

@@ -14,8 +14,8 @@ use Rattle.laws.proofs.Bools.{both}
 use Rattle.laws.proofs.Conds.{picks, passes as passes-by}
 use Rattle.opcodes.specs.Opcodes.{decode_of}
 use Rattle.opcodes.specs.declared.Place.TheVariants.{Inherent, Relative}
-use Rattle.opcodes.specs.declared.Decoded.{Decoded}
-use Rattle.opcodes.specs.declared.Decoded.TheVariants.{Undefined, Defined}
+use Rattle.std.specs.Prelude.{Option, None, Some}
+use Rattle.opcodes.specs.declared.Instruction.{Instruction}
 use Rattle.opcodes.proofs.Table.{passes, both as both-pass}
 use Rattle.mnemonics.specs.Mnemonics.{mnemonic_of}
 use Rattle.listing_lines.specs.Lines.{form_of, data_name}
@@ -84,9 +84,9 @@ same_key x y f g h k =
     (λ e. eq-eqb _ _ (sym (alike_same _ _ _ _ (form_number g) _ _ _ _ (form_number f) e)))
 
 -- every mnemonic has such characters: one test computed over the table
-abbrev named : Decoded → Bool
-named Undefined = true
-named (Defined i) =
+abbrev named : Option Instruction → Bool
+named None = true
+named (Some i) =
     let name = mnemonic_of i.operation i.place in
     ltb (get_or name 0 0) 256 && ltb (get_or name 1 0) 256 && ltb (get_or name 2 0) 256 && ltb (get_or name 3 0) 256
 
@@ -106,13 +106,13 @@ key_below : (name : List ℕ) (form : Form) → Named name → key_of name form 
 unfolding key_of
 key_below name form (h0, h1, h2, h3) = let f8 = small form in omega arith
 
-key_written : (name : List ℕ) (form : Form) → Named name → (d : Decoded) → T (named d) → eqb (decoded_key d) (key_of name form) ≡ is_written name form d
-key_written name form h Undefined t = let l = key_below name form h in ne_eqb 1099511627776 (key_of name form) (λ e. omega arith)
-key_written name form h (Defined i) t =
+key_written : (name : List ℕ) (form : Form) → Named name → (d : Option Instruction) → T (named d) → eqb (decoded_key d) (key_of name form) ≡ is_written name form d
+key_written name form h None t = let l = key_below name form h in ne_eqb 1099511627776 (key_of name form) (λ e. omega arith)
+key_written name form h (Some i) t =
     same_key (mnemonic_of i.operation i.place) name (form_of i.place) form (tests_named _ _ _ _ t) h
 
 -- a table of keys, one more
-pub key_at_lem : (op : ℕ) (d : Decoded) (r : ℕ) → d ≡ decode_of op → r ≡ decoded_key d → r ≡ key_at op
+pub key_at_lem : (op : ℕ) (d : Option Instruction) (r : ℕ) → d ≡ decode_of op → r ≡ decoded_key d → r ≡ key_at op
 unfolding key_at
 key_at_lem op d r e f = f ∙ ap decoded_key e
 
@@ -158,7 +158,7 @@ pub branch_placed : (address op v size next distance : ℕ) → next ≡ up addr
 branch_placed address op v size next distance e f = rw (f, e)
 
 -- past the table nothing is defined
-pub table_ends : decode_of 256 ≡ Undefined
+pub table_ends : decode_of 256 ≡ None
 unfolding decode_of
 table_ends = refl
 
@@ -175,7 +175,7 @@ module _ (address : ℕ) (name : List ℕ) (form : Form) (v size k l : ℕ) (thi
   unfolding coded_of
   coded_data op e f = rw e (sym (picks _ _ (sym data_tested ∙ eq-eqb l k (sym f))))
 
-  pub coded_code : (op : ℕ) (d : Decoded) → op ≡ code_for name form → d ≡ decode_of op → (k ≡ l → ⊥)
+  pub coded_code : (op : ℕ) (d : Option Instruction) → op ≡ code_for name form → d ≡ decode_of op → (k ≡ l → ⊥)
       → coded_as address op d v size ≡ coded_of address name form v size
   unfolding coded_of
   coded_code op d e f n = rw (f, e) (sym (passes-by _ _ (sym data_tested ∙ ne_eqb l k (λ q. n (sym q)))))

@@ -13,8 +13,8 @@ use Rattle.opcodes.specs.Fits.{operand_bytes}
 use Rattle.opcodes.specs.declared.Place.{Place}
 use Rattle.opcodes.specs.declared.Place.TheVariants.{Inherent, AccumulatorA, AccumulatorB, ImmediateByte, ImmediateWord}
 use Rattle.opcodes.specs.declared.Place.TheVariants.{Direct, Indexed, Extended, Relative}
-use Rattle.opcodes.specs.declared.Decoded.{Decoded}
-use Rattle.opcodes.specs.declared.Decoded.TheVariants.{Undefined, Defined}
+use Rattle.std.specs.Prelude.{Option, None, Some}
+use Rattle.opcodes.specs.declared.Instruction.{Instruction}
 use Rattle.opcodes.proofs.Fits.{fits}
 use Rattle.listing_lines.specs.declared.Form.{Form}
 use Rattle.listing_codes.specs.Codes.{code_for, piece, branch_distance, is_far, placed_at, coded_as, is_data, coded_of}
@@ -53,9 +53,9 @@ module _ (a v size : ℕ) where
       cases (Fair a size) (is_far d) {x = Far a} {y = Line (piece a 2 op (low d) 0) size} (λ _. refl)
       (λ _. whole 2 _ _ _ (omega arith) (omega arith) (λ _. omega arith))
 
-  coded_as_fair : (op : ℕ) (d : Decoded) → decode_of op ≡ d → Fair a size (coded_as a op d v size)
-  coded_as_fair op Undefined e = tt
-  coded_as_fair op (Defined i) e =
+  coded_as_fair : (op : ℕ) (d : Option Instruction) → decode_of op ≡ d → Fair a size (coded_as a op d v size)
+  coded_as_fair op None e = tt
+  coded_as_fair op (Some i) e =
       cases (Fair a size) (ltb 65536 (a + i.length)) {x = Bad} {y = placed_at a op i.place v size} (λ _. tt)
       (λ f. placed_fair op i.length i.place (fits op i e).0 (ltb-false 65536 (a + i.length) f))
 

@@ -1,11 +1,10 @@
 -- What a mnemonic with an operand comes to: its bytes, by the same opcode facts as the machine.
-use Rattle.std.specs.Prelude.{ℕ, zero, suc, ◌+◌, List, Bool, false, cond, ◌&&◌, ltb, eqb, get_or}
+use Rattle.std.specs.Prelude.{ℕ, zero, suc, ◌+◌, List, Bool, false, cond, ◌&&◌, ltb, eqb, get_or, Option, None, Some}
 use Rattle.bits.specs.Words.{high, low, up, down}
 use Rattle.opcodes.specs.Opcodes.{decode_of}
 use Rattle.opcodes.specs.declared.Place.{Place}
 use Rattle.opcodes.specs.declared.Place.TheVariants as place
-use Rattle.opcodes.specs.declared.Decoded.{Decoded}
-use Rattle.opcodes.specs.declared.Decoded.TheVariants.{Undefined, Defined}
+use Rattle.opcodes.specs.declared.Instruction.{Instruction}
 use Rattle.mnemonics.specs.Mnemonics.{mnemonic_of}
 use Rattle.listing_lines.specs.Lines.{form_of, data_name}
 use Rattle.listing_lines.specs.declared.Form.{Form}
@@ -29,9 +28,9 @@ form_number Indexed = 5
 abbrev pub same_form : Form → Form → Bool
 same_form a b = eqb (form_number a) (form_number b)
 
-abbrev pub is_written : List ℕ → Form → Decoded → Bool
-is_written name form Undefined = false
-is_written name form (Defined i) = same_name name (mnemonic_of i.operation i.place) && same_form form (form_of i.place)
+abbrev pub is_written : List ℕ → Form → Option Instruction → Bool
+is_written name form None = false
+is_written name form (Some i) = same_name name (mnemonic_of i.operation i.place) && same_form form (form_of i.place)
 
 abbrev pub first_from : (ℕ → Bool) → ℕ → ℕ → ℕ
 first_from test k zero = k
@@ -68,9 +67,9 @@ placed_at address op place.Extended v size = Line (piece address 3 op (high v) (
 placed_at address op place.Relative v size = branch_to address op (branch_distance address v) size
 
 -- "a line whose bytes would end past $FFFF is 13", which comes before 14
-abbrev pub coded_as : ℕ → ℕ → Decoded → ℕ → ℕ → Read
-coded_as address op Undefined v size = Bad
-coded_as address op (Defined i) v size = cond (ltb 65536 (address + i.length)) Bad (placed_at address op i.place v size)
+abbrev pub coded_as : ℕ → ℕ → Option Instruction → ℕ → ℕ → Read
+coded_as address op None v size = Bad
+coded_as address op (Some i) v size = cond (ltb 65536 (address + i.length)) Bad (placed_at address op i.place v size)
 
 -- "The assembler takes FCB with any byte"
 abbrev pub is_data : List ℕ → Form → Bool

@@ -1,9 +1,8 @@
 -- What the search of src is proved with: how an opcode is written, as one number, and a table of the 256 numbers, made once a text. Nobody needs to
 -- believe this file: `coded` promises the search of Codes.antt.
-use Rattle.std.specs.Prelude.{ℕ, ◌+◌, ◌*◌, ◌<◌, List, ◌≡◌, get_or, length}
+use Rattle.std.specs.Prelude.{ℕ, ◌+◌, ◌*◌, ◌<◌, List, ◌≡◌, get_or, length, Option, None, Some}
 use Rattle.opcodes.specs.Opcodes.{decode_of}
-use Rattle.opcodes.specs.declared.Decoded.{Decoded}
-use Rattle.opcodes.specs.declared.Decoded.TheVariants.{Undefined, Defined}
+use Rattle.opcodes.specs.declared.Instruction.{Instruction}
 use Rattle.mnemonics.specs.Mnemonics.{mnemonic_of}
 use Rattle.listing_lines.specs.Lines.{form_of}
 use Rattle.listing_lines.specs.declared.Form.{Form}
@@ -18,9 +17,9 @@ unfoldable pub key_of : List ℕ → Form → ℕ
 key_of name form = (((get_or name 0 0 * 256 + get_or name 1 0) * 256 + get_or name 2 0) * 256 + get_or name 3 0) * 8 + form_number form
 
 -- .. of an opcode; an undefined one has a number that no mnemonic and form have
-abbrev pub decoded_key : Decoded → ℕ
-decoded_key Undefined = 1099511627776
-decoded_key (Defined i) = key_of (mnemonic_of i.operation i.place) (form_of i.place)
+abbrev pub decoded_key : Option Instruction → ℕ
+decoded_key None = 1099511627776
+decoded_key (Some i) = key_of (mnemonic_of i.operation i.place) (form_of i.place)
 
 unfoldable pub key_at : ℕ → ℕ
 key_at op = decoded_key (decode_of op)

@@ -8,7 +8,7 @@ ghost use Rattle.listing_codes.specs.Keys.{key_of, Named, decoded_key, Keys};
 
 use bits::{lower, minus, plus, upper};
 use listing_lines::Form;
-use opcodes::{Decoded, Place};
+use opcodes::{Instruction, Place};
 
 // The bytes of a line, `length` of them; the others are 0.
 #[derive(Clone, Copy)]
@@ -57,12 +57,12 @@ fn key(name: [u8; 4], form: Form) -> u64
     (high * 65536 + low) * 8 + form_number(form) as u64
 }
 
-fn decoded_key(decoded: Decoded) -> u64
+fn decoded_key(decoded: Option<Instruction>) -> u64
     ensures { result ≡ decoded_key decoded }
 {
     match decoded {
-        Decoded::Undefined => 1099511627776,
-        Decoded::Defined(i) => {
+        None => 1099511627776,
+        Some(i) => {
             let operation = i.operation;
             let place = i.place;
             key(
@@ -177,12 +177,12 @@ fn placed_at(address: u16, op: u8, place: Place, v: u16, size: u8) -> Read
     }
 }
 
-fn coded_as(address: u16, op: u8, decoded: Decoded, v: u16, size: u8) -> Read
+fn coded_as(address: u16, op: u8, decoded: Option<Instruction>, v: u16, size: u8) -> Read
     ensures { result ≡ coded_as address op decoded v size }
 {
     match decoded {
-        Decoded::Undefined => Read::Bad,
-        Decoded::Defined(i) => {
+        None => Read::Bad,
+        Some(i) => {
             let place = i.place;
             if 65536 < address as u32 + i.length as u32 {
                 return Read::Bad;

@@ -6,8 +6,8 @@ use mathlib.Core.Bool.{Bool, true, false, cond}
 use mathlib.Core.List.{List}
 use lib.Dec.{eqb}
 use lib.ListN.{get_or, length, take}
-use Rattle.opcodes.specs.declared.Decoded.{Decoded}
-use Rattle.opcodes.specs.declared.Decoded.TheVariants.{Undefined, Defined}
+use Rattle.std.specs.Prelude.{Option, None, Some}
+use Rattle.opcodes.specs.declared.Instruction.{Instruction}
 use Rattle.listing_lines.specs.Lines.{form_of, published_line, item_line}
 use Rattle.listing_lines.specs.Cells.{head_of, ending_of, fourth_of, size_of, item_size, cells_of}
 use Rattle.listing_lines.specs.declared.Form.{Form}
@@ -71,11 +71,11 @@ size_most c Bare = by (eqb c 32)
     by false = omega arith
 
 -- those of what is listed
-pub item_size_lem : (address : ℕ) (shown : Decoded) (first second third : ℕ) → length (item_line address shown first second third) ≡ item_size shown
+pub item_size_lem : (address : ℕ) (shown : Option Instruction) (first second third : ℕ) → length (item_line address shown first second third) ≡ item_size shown
 unfolding item_line
-item_size_lem address Undefined first second third = line_size address _ _ Byte _
-item_size_lem address (Defined i) first second third = line_size address _ _ _ _
+item_size_lem address None first second third = line_size address _ _ Byte _
+item_size_lem address (Some i) first second third = line_size address _ _ _ _
 
-pub item_least : (shown : Decoded) → 20 ≤ item_size shown
-item_least Undefined = omega arith
-item_least (Defined i) = size_least _ (form_of i.place)
+pub item_least : (shown : Option Instruction) → 20 ≤ item_size shown
+item_least None = omega arith
+item_least (Some i) = size_least _ (form_of i.place)

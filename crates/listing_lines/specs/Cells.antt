@@ -1,9 +1,8 @@
 -- What the private functions of src are proved against: a line as 28 cells, of which it takes the first ones. Nobody needs to believe this file:
 -- `line` and `item_line` promise the lines of Lines.antt.
-use Rattle.std.specs.Prelude.{ℕ, List, [], ◌∷◌, ◌++◌, cond, eqb, get_or}
+use Rattle.std.specs.Prelude.{ℕ, List, [], ◌∷◌, ◌++◌, cond, eqb, get_or, Option, None, Some}
 use Rattle.characters.specs.Characters.{ascii, hexadecimal_of}
-use Rattle.opcodes.specs.declared.Decoded.{Decoded}
-use Rattle.opcodes.specs.declared.Decoded.TheVariants.{Undefined, Defined}
+use Rattle.opcodes.specs.declared.Instruction.{Instruction}
 use Rattle.mnemonics.specs.Mnemonics.{mnemonic_of}
 use Rattle.listing_lines.specs.Lines.{cells, form_of, line_end}
 use Rattle.listing_lines.specs.declared.Form.{Form}
@@ -44,9 +43,9 @@ size_of c Word = 27
 size_of c Indexed = 27
 
 -- .. of what is listed
-abbrev pub item_size : Decoded → ℕ
-item_size Undefined = 25
-item_size (Defined i) = size_of (get_or (mnemonic_of i.operation i.place) 3 0) (form_of i.place)
+abbrev pub item_size : Option Instruction → ℕ
+item_size None = 25
+item_size (Some i) = size_of (get_or (mnemonic_of i.operation i.place) 3 0) (form_of i.place)
 
 -- all 28
 abbrev pub cells_of : List ℕ → List ℕ → ℕ → List ℕ → List ℕ

@@ -6,14 +6,13 @@
 --     0108  01        NOP
 -- "1 to 4 address; 5, 6 blank; 7 to 14 the bytes, two digits each with a blank between, padded to 8; 15, 16 blank; 17 to 20 mnemonic, padded
 -- only if an operand follows; 21 blank, only if an operand follows; 22 on the operand."
-use Rattle.std.specs.Prelude.{ℕ, zero, suc, List, [], ◌∷◌, ◌++◌, cond, eqb, get_or, take}
+use Rattle.std.specs.Prelude.{ℕ, zero, suc, List, [], ◌∷◌, ◌++◌, cond, eqb, get_or, take, Option, None, Some}
 use Rattle.characters.specs.Characters.{ascii, hexadecimal_of}
 use Rattle.bits.specs.Words.{paired, up}
 use Rattle.registers.specs.Registers.{offset}
 use Rattle.opcodes.specs.declared.Place.{Place}
 use Rattle.opcodes.specs.declared.Place.TheVariants as place
-use Rattle.opcodes.specs.declared.Decoded.{Decoded}
-use Rattle.opcodes.specs.declared.Decoded.TheVariants.{Undefined, Defined}
+use Rattle.opcodes.specs.declared.Instruction.{Instruction}
 use Rattle.mnemonics.specs.Mnemonics.{mnemonic_of}
 use Rattle.listing_lines.specs.declared.Form.{Form}
 use Rattle.listing_lines.specs.declared.Form.TheVariants.{Bare, HashByte, HashWord, Byte, Word, Indexed}
@@ -94,14 +93,14 @@ operand_of address place.Relative second third = branch_target address second
 abbrev pub data_name : List ℕ
 data_name = ascii "FCB "
 
--- the bytes of what is listed: an instruction, or one data byte, for which `Undefined` stands
-abbrev pub bytes_of : Decoded → ℕ
-bytes_of Undefined = 1
-bytes_of (Defined i) = i.length
+-- the bytes of what is listed: an instruction, or one data byte, for which `None` stands
+abbrev pub bytes_of : Option Instruction → ℕ
+bytes_of None = 1
+bytes_of (Some i) = i.length
 
 -- the line of what is listed at an address, of whose three bytes it has so many
-unfoldable pub item_line : ℕ → Decoded → ℕ → ℕ → ℕ → List ℕ
-item_line address Undefined first second third = published_line address (column_of (first ∷ [])) data_name Byte first
-item_line address (Defined i) first second third =
+unfoldable pub item_line : ℕ → Option Instruction → ℕ → ℕ → ℕ → List ℕ
+item_line address None first second third = published_line address (column_of (first ∷ [])) data_name Byte first
+item_line address (Some i) first second third =
     published_line address (column_of (take i.length (first ∷ second ∷ third ∷ []))) (mnemonic_of i.operation i.place) (form_of i.place)
     (operand_of address i.place second third)

@@ -7,7 +7,7 @@ ghost use Rattle.listing_lines.specs.Lines.{form_of, published_line, column_of, 
 ghost use Rattle.listing_lines.specs.Cells.{head_of, ending_of, bare_fourth, fourth_of, size_of, item_size, cells_of};
 
 use bits::plus;
-use opcodes::{Decoded, Place};
+use opcodes::{Instruction, Place};
 
 // How an operand is written: not at all, `#$12`, `#$1234`, `$12`, `$1234`, `$12,X`.
 #[derive(Clone, Copy)]
@@ -187,17 +187,17 @@ fn operand(address: u16, place: Place, second: u8, third: u8) -> u16
 }
 
 // The line of what is listed at an address: an instruction, or a data byte where `shown` is undefined.
-pub fn item_line(address: u16, shown: Decoded, first: u8, second: u8, third: u8) -> Text
+pub fn item_line(address: u16, shown: Option<Instruction>, first: u8, second: u8, third: u8) -> Text
     requires { (1 ≤ bytes_of shown) × (bytes_of shown ≤ 3) }
     ensures { (take result.length result.bytes ≡ item_line address shown first second third)
         × (length (item_line address shown first second third) ≡ result.length) × (result.length ≤ 28) }
 {
     match shown {
-        Decoded::Undefined => {
+        None => {
             let bytes = column(1, first, 0, 0);
             line(address, bytes, *b"FCB ", Form::Byte, first as u16)
         }
-        Decoded::Defined(i) => {
+        Some(i) => {
             let place = i.place;
             let operation = i.operation;
             let bytes = column(i.length, first, second, third);
@@ -214,12 +214,12 @@ pub fn item_line(address: u16, shown: Decoded, first: u8, second: u8, third: u8)
 }
 
 // How many characters that line has.
-pub fn item_size(shown: Decoded) -> u8
+pub fn item_size(shown: Option<Instruction>) -> u8
     ensures { (result ≡ item_size shown) × (result ≤ 28) }
 {
     match shown {
-        Decoded::Undefined => 25,
-        Decoded::Defined(i) => {
+        None => 25,
+        Some(i) => {
             let place = i.place;
             let operation = i.operation;
             let name = mnemonics::mnemonic(operation, place);

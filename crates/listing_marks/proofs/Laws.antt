@@ -11,7 +11,8 @@ use borrow.Author.Tests.{lt-ltb, le-ltb, ltb-false, eq-eqb, ne_eqb}
 use Rattle.laws.proofs.Conds.{picks, passes}
 use Rattle.laws.proofs.Lists.{sets_append}
 use Rattle.numbers.proofs.Laws.{sets_over}
-use Rattle.opcodes.specs.declared.Decoded.{Decoded}
+use Rattle.std.specs.Prelude.{Option}
+use Rattle.opcodes.specs.declared.Instruction.{Instruction}
 use Rattle.asking.specs.Asking.{Given, gives, replies}
 use Rattle.map_file.specs.MapFile.{file_bytes, is_map_file}
 use Rattle.listing_lines.specs.Lines.{bytes_of}
@@ -66,17 +67,17 @@ module _ (map image : List ℕ) (last : ℕ) where
   marked_done address h = let n : last + 1 - address ≡ 0 = omega arith in rw n
 
   -- a turn of the loop: the line of what is listed at an address, its characters and bytes
-  pub record Turn (address size bytes : ℕ) (shown : Decoded) : Type 0 where
+  pub record Turn (address size bytes : ℕ) (shown : Option Instruction) : Type 0 where
     pub there : address ≤ last
     pub same : shown ≡ shown_at image last address
     pub long : length (marked_line map image address shown) ≡ size
     pub wide : bytes ≡ bytes_of shown
 
-  more : {address size bytes : ℕ} {shown : Decoded} → Turn address size bytes shown → from address ≡ marked_line map image address shown ++ from (address + bytes)
+  more : {address size bytes : ℕ} {shown : Option Instruction} → Turn address size bytes shown → from address ≡ marked_line map image address shown ++ from (address + bytes)
   unfolding listed_bytes
   more {address} t = rw (t.wide, t.same) (marked_more address t.there)
 
-  pub counts_more : (at : ℕ) {address size bytes total : ℕ} {shown : Decoded} → Turn address size bytes shown
+  pub counts_more : (at : ℕ) {address size bytes total : ℕ} {shown : Option Instruction} → Turn address size bytes shown
       → total ≡ at + length (from address) → total ≡ at + size + length (from (address + bytes))
   counts_more at {address} {shown = shown} t e =
       let s = ap (λ (l : List ℕ). length l) (more t) ∙ length-append (marked_line map image address shown) _ in
@@ -86,7 +87,7 @@ module _ (map image : List ℕ) (last : ℕ) where
   pub counts_done : (at : ℕ) {address total : ℕ} → last < address → total ≡ at + length (from address) → at ≡ total
   counts_done at {address} h e = let d = ap (λ (l : List ℕ). length l) (marked_done address h) in omega arith
 
-  pub writes_more : (at : ℕ) (buffer : List ℕ) {address size bytes : ℕ} {shown : Decoded} {buffer' : List ℕ} → Turn address size bytes shown
+  pub writes_more : (at : ℕ) (buffer : List ℕ) {address size bytes : ℕ} {shown : Option Instruction} {buffer' : List ℕ} → Turn address size bytes shown
       → buffer' ≡ sets buffer at (marked_line map image address shown)
       → sets buffer at (from address) ≡ sets buffer' (at + size) (from (address + bytes))
   writes_more at buffer {address} {shown = shown} t e =

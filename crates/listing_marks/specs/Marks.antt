@@ -1,8 +1,8 @@
 -- The listing of a range with a column of what has run, and what the call `list_marked` answers and leaves for all inputs. The column is two characters
 -- before each line: `*` where an instruction began at the line's address by the map, `+` where none began there but one began at another byte of the
 -- line (a jump into an operand), a blank where nothing of the line ran; then a blank.
-use Rattle.std.specs.Prelude.{ℕ, zero, suc, ◌+◌, ◌-◌, ◌*◌, List, [], ◌∷◌, ◌++◌, cond, not, ◌&&◌, ◌||◌, ltb, eqb, length}
-use Rattle.opcodes.specs.declared.Decoded.{Decoded}
+use Rattle.std.specs.Prelude.{ℕ, zero, suc, ◌+◌, ◌-◌, ◌*◌, List, [], ◌∷◌, ◌++◌, cond, not, ◌&&◌, ◌||◌, ltb, eqb, length, Option}
+use Rattle.opcodes.specs.declared.Instruction.{Instruction}
 use Rattle.asking.specs.Asking.{Given, gives, replies}
 use Rattle.execution_map.specs.Map.{has_run}
 use Rattle.map_file.specs.MapFile.{file_bytes, is_map_file}
@@ -18,7 +18,7 @@ mark_of map address bytes =
     (cond ((ltb 1 bytes && has_run map (address + 1)) || (ltb 2 bytes && has_run map (address + 2))) 43 32)
 
 -- a line behind its column
-unfoldable pub marked_line : List ℕ → List ℕ → ℕ → Decoded → List ℕ
+unfoldable pub marked_line : List ℕ → List ℕ → ℕ → Option Instruction → List ℕ
 marked_line map image address shown =
     mark_of map address (bytes_of shown) ∷ 32
     ∷ item_line address shown (image_byte image address) (image_byte image (address + 1)) (image_byte image (address + 2))

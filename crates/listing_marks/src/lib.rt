@@ -6,7 +6,7 @@ ghost use Rattle.std.proofs.lemmas.List.Edits.{sets};
 ghost use Rattle.listing_lines.specs.Lines.{bytes_of};
 ghost use Rattle.listing_marks.specs.Marks.{mark_of, marked_line, marked_listing, told_marked, marked_answer, marked_buffer};
 
-use opcodes::Decoded;
+use opcodes::Instruction;
 
 // The listing was written and is so many characters long; or the image is not 65,536 bytes; or the range goes past $FFFF or backward; or the file is no
 // map and its own total; or the buffer is shorter than 30 characters a byte.
@@ -48,7 +48,7 @@ fn put_line(
     map: &[u8],
     image: &[u8],
     address: usize,
-    shown: Decoded,
+    shown: Option<Instruction>,
     at: usize,
     buffer: &mut [u8],
 ) -> usize

@@ -14,7 +14,7 @@ use Rattle.opcodes.specs.Fits.{operand_bytes}
 use Rattle.opcodes.specs.declared.Place.{Place}
 use Rattle.opcodes.specs.declared.Place.TheVariants as place
 use Rattle.opcodes.specs.declared.Instruction.{Instruction}
-use Rattle.opcodes.specs.declared.Decoded.TheVariants.{Undefined, Defined}
+use Rattle.std.specs.Prelude.{None, Some}
 use Rattle.opcodes.proofs.Fits.{fits}
 use Rattle.listing_lines.specs.Lines.{form_of, column_of, branch_target, operand_of, data_name, item_line}
 use Rattle.listing_lines.specs.declared.Form.TheVariants.{Byte}
@@ -82,7 +82,7 @@ module _ (a b c : ℕ) (h : a < 65536) (k : b < 256) (l : c < 256) where
   placed_back op size place.Relative = target_back a b op size h k
 
   -- the search finds the opcode again
-  coded_back : (op : ℕ) (i : Instruction) (size : ℕ) → op < 256 → decode_of op ≡ Defined i → a + i.length ≤ 65536
+  coded_back : (op : ℕ) (i : Instruction) (size : ℕ) → op < 256 → decode_of op ≡ Some i → a + i.length ≤ 65536
       → coded_of a (name_of i) (form_of i.place) (operand_of a i.place b c) size
       ≡ Line (piece a i.length op (second_of i.length b) (third_of i.length c)) size
   unfolding coded_of
@@ -113,9 +113,9 @@ column_free (suc (suc (suc n))) op b c =
       no_end_lem (c % 16) (omega arith),
     )
 
-pub item_back : (a op b c : ℕ) → a < 65536 → op < 256 → b < 256 → c < 256 → (rest : List ℕ) (i : Instruction) → decode_of op ≡ Defined i → a + i.length ≤ 65536
-    → line_in (item_line a (Defined i) op b c ++ rest)
-    ≡ Line (piece a i.length op (second_of i.length b) (third_of i.length c)) (length (item_line a (Defined i) op b c))
+pub item_back : (a op b c : ℕ) → a < 65536 → op < 256 → b < 256 → c < 256 → (rest : List ℕ) (i : Instruction) → decode_of op ≡ Some i → a + i.length ≤ 65536
+    → line_in (item_line a (Some i) op b c ++ rest)
+    ≡ Line (piece a i.length op (second_of i.length b) (third_of i.length c)) (length (item_line a (Some i) op b c))
 unfolding item_line
 item_back a op b c h m k l rest i e f =
     let t = known_at op i m e in
@@ -124,7 +124,7 @@ item_back a op b c h m k l rest i e f =
     ∙ coded_back a b c h k l op i _ m e f
 
 pub data_back : (a op b c : ℕ) → a < 65536 → op < 256 → (rest : List ℕ)
-    → line_in (item_line a Undefined op b c ++ rest) ≡ Line (piece a 1 op 0 0) (length (item_line a Undefined op b c))
+    → line_in (item_line a None op b c ++ rest) ≡ Line (piece a 1 op 0 0) (length (item_line a None op b c))
 unfolding item_line coded_of
 data_back a op b c h m rest =
     let e : op % 256 ≡ op = omega arith in

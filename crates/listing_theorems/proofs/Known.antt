@@ -14,8 +14,7 @@ use Rattle.laws.proofs.Bools.{both}
 use Rattle.tables.proofs.Rows.{from, agree}
 use Rattle.opcodes.specs.Opcodes.{decode_of}
 use Rattle.opcodes.specs.declared.Instruction.{Instruction}
-use Rattle.opcodes.specs.declared.Decoded.{Decoded}
-use Rattle.opcodes.specs.declared.Decoded.TheVariants.{Undefined, Defined}
+use Rattle.std.specs.Prelude.{Option, None, Some}
 use Rattle.mnemonics.specs.Mnemonics.{mnemonic_of}
 use Rattle.listing_lines.specs.Lines.{form_of}
 use Rattle.listing_lines.specs.declared.Form.{Form}
@@ -25,9 +24,9 @@ use Rattle.listing_codes.proofs.Laws.{table_ends}
 abbrev pub name_of : Instruction → List ℕ
 name_of i = mnemonic_of i.operation i.place
 
-abbrev known : ℕ → Decoded → Bool
-known op Undefined = true
-known op (Defined i) =
+abbrev known : ℕ → Option Instruction → Bool
+known op None = true
+known op (Some i) =
     eqb (code_for (name_of i) (form_of i.place)) op
     && (not (is_data (name_of i) (form_of i.place)) && (not (eqb (get_or (name_of i) 3 0) 10) && eqb (length (name_of i)) 4))
 
@@ -41,9 +40,9 @@ pub record Known (op : ℕ) (i : Instruction) : Type 0 where
   pub no_end_lem : eqb (get_or (name_of i) 3 0) 10 ≡ false
   pub four : length (name_of i) ≡ 4
 
-pub known_at : (op : ℕ) (i : Instruction) → op < 256 → decode_of op ≡ Defined i → Known op i
+pub known_at : (op : ℕ) (i : Instruction) → op < 256 → decode_of op ≡ Some i → Known op i
 known_at op i h e =
-    let t = subst (λ (d : Decoded). known op d ≡ true) e (agree (λ (op : ℕ). known op (decode_of op)) (λ (op : ℕ). true) 256 table op h) in
+    let t = subst (λ (d : Option Instruction). known op d ≡ true) e (agree (λ (op : ℕ). known op (decode_of op)) (λ (op : ℕ). true) 256 table op h) in
     let b = both (eqb (code_for (name_of i) (form_of i.place)) op) _ t in
     let c = both (not (is_data (name_of i) (form_of i.place))) _ b.1 in
     let d = both (not (eqb (get_or (name_of i) 3 0) 10)) _ c.1 in
@@ -63,10 +62,10 @@ first_found test k (suc n) = by (test k) refl (first_from test (suc k) n) (first
     by false e m (inr f) = inr (f.0, omega arith)
 
 -- a mnemonic and form for which an opcode is found are those of that opcode
-pub found_at : (name : List ℕ) (form : Form) (i : Instruction) → decode_of (code_for name form) ≡ Defined i
-    → (is_written name form (Defined i) ≡ true) × (code_for name form < 256)
+pub found_at : (name : List ℕ) (form : Form) (i : Instruction) → decode_of (code_for name form) ≡ Some i
+    → (is_written name form (Some i) ≡ true) × (code_for name form < 256)
 unfolding code_for
 found_at name form i e =
-    ⊎_elim (λ n. let z : Undefined ≡ Defined i = sym table_ends ∙ ap decode_of (sym n) ∙ e in apart cc)
-    (λ f. (subst (λ (d : Decoded). is_written name form d ≡ true) e f.0, f.1))
+    ⊎_elim (λ n. let z : None ≡ Some i = sym table_ends ∙ ap decode_of (sym n) ∙ e in apart cc)
+    (λ f. (subst (λ (d : Option Instruction). is_written name form d ≡ true) e f.0, f.1))
     (first_found (λ (op : ℕ). is_written name form (decode_of op)) 0 256)

@@ -13,7 +13,8 @@ use Rattle.laws.proofs.Conds.{cases}
 use Rattle.laws.proofs.Known.{known}
 use Rattle.numbers.specs.Numbers.{over}
 use Rattle.opcodes.specs.Opcodes.{decode_of}
-use Rattle.opcodes.specs.declared.Decoded.{Decoded}
+use Rattle.std.specs.Prelude.{Option}
+use Rattle.opcodes.specs.declared.Instruction.{Instruction}
 use Rattle.opcodes.proofs.Table.{passes}
 use Rattle.asking.specs.Asking.{Given, gives, replies}
 use Rattle.mnemonics.specs.Mnemonics.{mnemonic_of}
@@ -146,16 +147,16 @@ module _ (image : List ℕ) (first last : ℕ) (buffer : List ℕ) where
   list_settled r r' left left' p q = (listed_known r r' (p.0 ∙ sym q.0), p.1 ∙ sym q.1)
 
 -- a line has at most 25 characters for each byte that it lists
-abbrev is_short : Decoded → Bool
+abbrev is_short : Option Instruction → Bool
 is_short shown = leb (item_size shown) (25 * bytes_of shown)
 
 short : (opcode : ℕ) → T (is_short (decode_of opcode))
 unfolding mnemonic_of
 short = passes is_short tt tt
 
-line_short : (opcode room : ℕ) {shown : Decoded} → Item (decode_of opcode) room shown → item_size shown ≤ 25 * bytes_of shown
+line_short : (opcode room : ℕ) {shown : Option Instruction} → Item (decode_of opcode) room shown → item_size shown ≤ 25 * bytes_of shown
 line_short opcode room (data_byte _) = omega arith
-line_short opcode room (whole i e l) = leb→le _ _ (subst (λ (d : Decoded). T (is_short d)) e (short opcode))
+line_short opcode room (whole i e l) = leb→le _ _ (subst (λ (d : Option Instruction). T (is_short d)) e (short opcode))
 
 module _ (image : List ℕ) (last : ℕ) where
   long : (k address : ℕ) → last + 1 ≤ address + k → length (listing_from image last address) ≤ 25 * (last + 1 - address)

@@ -15,8 +15,8 @@ use Rattle.bits.specs.Words.{low}
 use Rattle.opcodes.specs.Opcodes.{decode_of}
 use Rattle.opcodes.specs.declared.Place.{Place}
 use Rattle.opcodes.specs.declared.Place.TheVariants as place
-use Rattle.opcodes.specs.declared.Decoded.{Decoded}
-use Rattle.opcodes.specs.declared.Decoded.TheVariants.{Undefined, Defined}
+use Rattle.std.specs.Prelude.{Option, None, Some}
+use Rattle.opcodes.specs.declared.Instruction.{Instruction}
 use Rattle.listing_lines.specs.Lines.{cells_from, form_of, published_line, data_name}
 use Rattle.listing_lines.specs.Cells.{size_of}
 use Rattle.listing_lines.specs.declared.Form.{Form}
@@ -77,9 +77,9 @@ module _ (a v size c : ℕ) where
       cases (Short 27) (is_far d) {x = Far a} {y = Line (piece a 2 op (low d) 0) size} (λ _. tt) (λ _. omega arith)
 
   module _ (name : List ℕ) (form : Form) where
-    as_short : (d : Decoded) → decode_of (code_for name form) ≡ d → Short (size_of c form) (coded_as a (code_for name form) d v size)
-    as_short Undefined e = tt
-    as_short (Defined i) e =
+    as_short : (d : Option Instruction) → decode_of (code_for name form) ≡ d → Short (size_of c form) (coded_as a (code_for name form) d v size)
+    as_short None e = tt
+    as_short (Some i) e =
         let f = same_form_lem form (form_of i.place) (both (same_name name (name_of i)) _ (found_at name form i e).0).1 in
         cases (Short (size_of c form)) (ltb 65536 (a + i.length)) {x = Bad} {y = placed_at a (code_for name form) i.place v size} (λ _. tt)
         (λ _. rw f (placed_short (code_for name (form_of i.place)) i.place))

@@ -10,8 +10,8 @@ use lib.Seq.{drop-cons, take-add, drop-drop, length-take-le}
 use borrow.Author.Tests.{eq-eqb, ne_eqb, le-ltb, ltb-true, ltb-false}
 use Rattle.numbers.specs.Numbers.{over}
 use Rattle.opcodes.specs.Opcodes.{decode_of}
-use Rattle.opcodes.specs.declared.Decoded.{Decoded}
-use Rattle.opcodes.specs.declared.Decoded.TheVariants.{Undefined, Defined}
+use Rattle.std.specs.Prelude.{Option, None, Some}
+use Rattle.opcodes.specs.declared.Instruction.{Instruction}
 use Rattle.listing_lines.specs.Lines.{bytes_of, item_line}
 use Rattle.listing_lines.proofs.Laws.{item_size_lem, item_least}
 use Rattle.listing_codes.specs.Codes.{piece}
@@ -45,7 +45,7 @@ module _ (image : List ℕ) (last : ℕ) (size : length image ≡ 65536) (small 
   abbrev piece_at : ℕ → ℕ → Piece
   piece_at a n = piece a n (image_byte image a) (second_of n (image_byte image (a + 1))) (third_of n (image_byte image (a + 2)))
 
-  shown_back : (a : ℕ) → a ≤ last → (rest : List ℕ) {d : Decoded} → Item (decode_of (image_byte image a)) (last + 1 - a) d
+  shown_back : (a : ℕ) → a ≤ last → (rest : List ℕ) {d : Option Instruction} → Item (decode_of (image_byte image a)) (last + 1 - a) d
       → line_in (item_line a d (image_byte image a) (image_byte image (a + 1)) (image_byte image (a + 2)) ++ rest)
       ≡ Line (piece_at a (bytes_of d)) (length (item_line a d (image_byte image a) (image_byte image (a + 1)) (image_byte image (a + 2))))
   shown_back a h rest (data_byte _) = data_back a (image_byte image a) (image_byte image (a + 1)) (image_byte image (a + 2)) (omega arith) (small a) rest
@@ -105,9 +105,9 @@ module _ (image : List ℕ) (last : ℕ) (size : length image ≡ 65536) (small 
   unfolding line_at item_line
   first_address a h = ap address_in (listing_more image last a h) ∙ by (shown_at image last a)
     where
-      by : (d : Decoded) → address_in (item_line a d (image_byte image a) (image_byte image (a + 1)) (image_byte image (a + 2)) ++ listing_from image last (a + listed_bytes image last a)) ≡ a
-      by Undefined = address_back a (omega arith) _ _ _ _ _
-      by (Defined i) = address_back a (omega arith) _ _ _ _ _
+      by : (d : Option Instruction) → address_in (item_line a d (image_byte image a) (image_byte image (a + 1)) (image_byte image (a + 2)) ++ listing_from image last (a + listed_bytes image last a)) ≡ a
+      by None = address_back a (omega arith) _ _ _ _ _
+      by (Some i) = address_back a (omega arith) _ _ _ _ _
 
   -- the same of the call: the first address and as many bytes as the range has, which are at the buffer's front
   pub answered : (first : ℕ) (buffer : List ℕ) → first ≤ last → last + 1 - first ≤ length buffer

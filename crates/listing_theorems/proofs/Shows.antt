@@ -12,8 +12,8 @@ use Rattle.laws.proofs.Apart.{apart}
 use Rattle.laws.proofs.Bools.{both}
 use Rattle.laws.proofs.Conds.{cases}
 use Rattle.opcodes.specs.Opcodes.{decode_of}
-use Rattle.opcodes.specs.declared.Decoded.{Decoded}
-use Rattle.opcodes.specs.declared.Decoded.TheVariants.{Undefined, Defined}
+use Rattle.std.specs.Prelude.{Option, None, Some}
+use Rattle.opcodes.specs.declared.Instruction.{Instruction}
 use Rattle.listing_lines.specs.Lines.{data_name}
 use Rattle.listing_lines.specs.declared.Form.{Form}
 use Rattle.listing_lines.specs.declared.Form.TheVariants.{Bare, HashByte, HashWord, Byte, Word, Indexed}
@@ -47,9 +47,9 @@ name_whole address name form v size =
         let s = both (eqb (get_or name 0 0) (get_or other 0 0) && eqb (get_or name 1 0) (get_or other 1 0) && eqb (get_or name 2 0) (get_or other 2 0)) _ e in
         rw (eqb-true (get_or name 3 0) (get_or other 3 0) s.1) f
 
-    by : (d : Decoded) → decode_of (code_for name form) ≡ d → (coded_as address (code_for name form) d v size ≡ Bad → ⊥) → eqb (get_or name 3 0) 10 ≡ false
-    by Undefined e n = absurd (n refl)
-    by (Defined i) e n =
+    by : (d : Option Instruction) → decode_of (code_for name form) ≡ d → (coded_as address (code_for name form) d v size ≡ Bad → ⊥) → eqb (get_or name 3 0) 10 ≡ false
+    by None e n = absurd (n refl)
+    by (Some i) e n =
         let f = found_at name form i e in
         fourth (name_of i) (known_at (code_for name form) i f.1 e).no_end_lem (both (same_name name (name_of i)) _ f.0).0
 

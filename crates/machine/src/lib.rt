@@ -12,7 +12,7 @@ ghost use Rattle.machine.specs.Steps.{moved, entry_cycles, entered_of, look_of, 
 use bus::Bus;
 use chip::Chip;
 use counts::Cycles;
-use opcodes::{Decoded, Instruction};
+use opcodes::Instruction;
 use ports::{Port, Ports};
 use registers::Registers;
 use serial::Serial;
@@ -339,8 +339,8 @@ impl Machine {
     {
         let decoded = opcodes::decode(self.opcode(image, area));
         match decoded {
-            Decoded::Undefined => Look::Undefined,
-            Decoded::Defined(i) => Look::Runs(i),
+            None => Look::Undefined,
+            Some(i) => Look::Runs(i),
         }
     }
 

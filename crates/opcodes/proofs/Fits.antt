@@ -1,11 +1,9 @@
 -- The columns of the table fit each other: a length is the opcode and the bytes of the place, and an operation stands only at its
 -- own places. One test computed over the table. Assumes nothing.
-use Rattle.std.proofs.Common.{◌≡◌, ℕ, ◌+◌, Bool, true, false, ◌&&◌, ◌||◌, T, eqb, ◌⊎◌, List, [], ◌∷◌, get_or, sym, refl, ap, ◌∙◌, subst, inl, inr, ⊎_elim, eqb→eq}
+use Rattle.std.proofs.Common.{◌≡◌, ℕ, ◌+◌, Bool, true, false, ◌&&◌, ◌||◌, T, eqb, ◌⊎◌, List, [], ◌∷◌, get_or, sym, refl, ap, ◌∙◌, subst, inl, inr, ⊎_elim, eqb→eq, Option, None, Some}
 use Rattle.opcodes.specs.Opcodes.{decode_of}
 use Rattle.opcodes.specs.Fits.{operand_bytes, places_of, Among}
 use Rattle.opcodes.specs.declared.Instruction.{Instruction}
-use Rattle.opcodes.specs.declared.Decoded.{Decoded}
-use Rattle.opcodes.specs.declared.Decoded.TheVariants.{Undefined, Defined}
 use Rattle.opcodes.specs.declared.Place.{Place}
 use Rattle.opcodes.specs.declared.Place.TheVariants.{Inherent, AccumulatorA, AccumulatorB, ImmediateByte, ImmediateWord}
 use Rattle.opcodes.specs.declared.Place.TheVariants.{Direct, Indexed, Extended, Relative}
@@ -52,13 +50,13 @@ among : (p : Place) (qs : List Place) → T (is_among p qs) → Among p qs
 among p [] t = absurd t
 among p (q ∷ qs) t = ⊎_elim (λ h. inl (same p q h)) (λ h. inr (among p qs h)) (either (eqb (number p) (number q)) (is_among p qs) t)
 
-abbrev fit : Decoded → Bool
-fit Undefined = true
-fit (Defined i) = eqb i.length (1 + operand_bytes i.place) && is_among i.place (places_of i.operation)
+abbrev fit : Option Instruction → Bool
+fit None = true
+fit (Some i) = eqb i.length (1 + operand_bytes i.place) && is_among i.place (places_of i.operation)
 
-pub fits : (n : ℕ) (i : Instruction) → decode_of n ≡ Defined i
+pub fits : (n : ℕ) (i : Instruction) → decode_of n ≡ Some i
     → (i.length ≡ 1 + operand_bytes i.place) × Among i.place (places_of i.operation)
 fits n i e =
     let b = both (eqb i.length (1 + operand_bytes i.place)) (is_among i.place (places_of i.operation))
-    (subst (λ (d : Decoded). T (fit d)) e (passes fit tt tt n)) in
+    (subst (λ (d : Option Instruction). T (fit d)) e (passes fit tt tt n)) in
     (eqb→eq i.length (1 + operand_bytes i.place) b.0, among i.place (places_of i.operation) b.1)

@@ -1,8 +1,7 @@
 -- A test that is computed over the table of opcodes holds of every number. Assumes nothing.
-use Rattle.std.proofs.Common.{ℕ, zero, suc, ◌/◌, ◌%◌, Bool, true, false, ◌&&◌, T, List, [], ◌∷◌, get_or}
+use Rattle.std.proofs.Common.{ℕ, zero, suc, ◌/◌, ◌%◌, Bool, true, false, ◌&&◌, T, List, [], ◌∷◌, get_or, Option, None}
 use Rattle.opcodes.specs.Opcodes.{decode_of, rows}
-use Rattle.opcodes.specs.declared.Decoded.{Decoded}
-use Rattle.opcodes.specs.declared.Decoded.TheVariants.{Undefined}
+use Rattle.opcodes.specs.declared.Instruction.{Instruction}
 
 pub both : (a b : Bool) → T (a && b) → T a × T b
 both true b t = (tt, t)
@@ -18,6 +17,6 @@ at test [] d h t k = h
 at test (x ∷ xs) d h t zero = (both (test x) (every test xs) t).0
 at test (x ∷ xs) d h t (suc k) = at test xs d h (both (test x) (every test xs) t).1 k
 
-pub passes : (test : Decoded → Bool) → T (test Undefined) → T (every (every test) rows) → (n : ℕ) → T (test (decode_of n))
+pub passes : (test : Option Instruction → Bool) → T (test None) → T (every (every test) rows) → (n : ℕ) → T (test (decode_of n))
 unfolding decode_of
-passes test h t n = at test (get_or rows (n / 16) []) Undefined h (at (every test) rows [] tt t (n / 16)) (n % 16)
+passes test h t n = at test (get_or rows (n / 16) []) None h (at (every test) rows [] tt t (n / 16)) (n % 16)

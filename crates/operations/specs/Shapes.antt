@@ -1,13 +1,13 @@
 -- Which accesses each operation makes. Every operation but RTI, SWI and WAI has one of seven shapes: no access, a load or a store of a byte or
 -- a word, a byte that is modified in its place, a word that is pushed.
+use Rattle.std.specs.Prelude.{Option, None, Some}
+use Rattle.opcodes.specs.declared.Accumulator.{Accumulator}
 use Rattle.opcodes.specs.declared.Accumulator.TheVariants.{A, B}
 use Rattle.opcodes.specs.declared.Monadic.{Monadic}
 use Rattle.opcodes.specs.declared.Operation.{Operation}
 use Rattle.opcodes.specs.declared.Operation.TheVariants as operations
 use Rattle.opcodes.specs.declared.Place.{Place}
 use Rattle.opcodes.specs.declared.Place.TheVariants.{Inherent, AccumulatorA, AccumulatorB, ImmediateByte, ImmediateWord, Direct, Indexed, Extended, Relative}
-use Rattle.operations.specs.declared.Target.{Target}
-use Rattle.operations.specs.declared.Target.TheVariants.{In, Memory}
 use Rattle.operations.specs.declared.Quiet.TheVariants as quiet
 use Rattle.operations.specs.declared.Loading.TheVariants as loading
 use Rattle.operations.specs.declared.LoadingWord.TheVariants as loadingWord
@@ -16,26 +16,26 @@ use Rattle.operations.specs.declared.Pushing.TheVariants as pushing
 use Rattle.operations.specs.declared.Shape.{Shape}
 use Rattle.operations.specs.declared.Shape.TheVariants.{Nothing, Load, LoadWord, Store, StoreWord, Modify, PushWord, Rti, Swi, Wai}
 
--- The accumulator or memory that an operation on one byte is for. Such an operation stands at A, at B, indexed or extended, and at no other
+-- The accumulator that an operation on one byte is for: none where it is for memory. Such an operation stands at A, at B, indexed or extended, and at no other
 -- of these places (`places_of` of opcodes, proved of the whole table).
-abbrev pub target_of : Place → Target
-target_of Inherent = Memory
-target_of AccumulatorA = In A
-target_of AccumulatorB = In B
-target_of ImmediateByte = Memory
-target_of ImmediateWord = Memory
-target_of Direct = Memory
-target_of Indexed = Memory
-target_of Extended = Memory
-target_of Relative = Memory
+abbrev pub target_of : Place → Option Accumulator
+target_of Inherent = None
+target_of AccumulatorA = Some A
+target_of AccumulatorB = Some B
+target_of ImmediateByte = None
+target_of ImmediateWord = None
+target_of Direct = None
+target_of Indexed = None
+target_of Extended = None
+target_of Relative = None
 
-abbrev pub monadic_shape : Monadic → Target → Shape
-monadic_shape op (In acc) = Nothing (quiet.Monadic op acc)
-monadic_shape op Memory = Modify op
+abbrev pub monadic_shape : Monadic → Option Accumulator → Shape
+monadic_shape op (Some acc) = Nothing (quiet.Monadic op acc)
+monadic_shape op None = Modify op
 
-abbrev pub tst_shape : Target → Shape
-tst_shape (In acc) = Nothing (quiet.Tst acc)
-tst_shape Memory = Load loading.Tst
+abbrev pub tst_shape : Option Accumulator → Shape
+tst_shape (Some acc) = Nothing (quiet.Tst acc)
+tst_shape None = Load loading.Tst
 
 unfoldable pub shape_of : Operation → Place → Shape
 shape_of (operations.Internal op) place = Nothing (quiet.Internal op)

@@ -11,13 +11,6 @@ use bits::{minus, plus};
 use opcodes::{Accumulator, Branch, Dyadic, Internal, Monadic, Operation, Place, Wide, WideStore};
 use registers::Registers;
 
-// What an operation on one byte is for.
-#[derive(Clone, Copy)]
-pub enum Target {
-    In(Accumulator),
-    Memory,
-}
-
 // What makes no access.
 #[derive(Clone, Copy)]
 pub enum Quiet {
@@ -73,37 +66,38 @@ pub enum Shape {
     Wai,
 }
 
-pub fn target_of(place: Place) -> Target
+// The accumulator that an operation on one byte is for: none where it is for memory.
+pub fn target_of(place: Place) -> Option<Accumulator>
     ensures { result ≡ target_of place }
 {
     match place {
-        Place::Inherent => Target::Memory,
-        Place::AccumulatorA => Target::In(Accumulator::A),
-        Place::AccumulatorB => Target::In(Accumulator::B),
-        Place::ImmediateByte => Target::Memory,
-        Place::ImmediateWord => Target::Memory,
-        Place::Direct => Target::Memory,
-        Place::Indexed => Target::Memory,
-        Place::Extended => Target::Memory,
-        Place::Relative => Target::Memory,
+        Place::Inherent => None,
+        Place::AccumulatorA => Some(Accumulator::A),
+        Place::AccumulatorB => Some(Accumulator::B),
+        Place::ImmediateByte => None,
+        Place::ImmediateWord => None,
+        Place::Direct => None,
+        Place::Indexed => None,
+        Place::Extended => None,
+        Place::Relative => None,
     }
 }
 
-fn monadic_shape(op: Monadic, target: Target) -> Shape
+fn monadic_shape(op: Monadic, target: Option<Accumulator>) -> Shape
     ensures { result ≡ monadic_shape op target }
 {
     match target {
-        Target::In(acc) => Shape::Nothing(Quiet::Monadic(op, acc)),
-        Target::Memory => Shape::Modify(op),
+        Some(acc) => Shape::Nothing(Quiet::Monadic(op, acc)),
+        None => Shape::Modify(op),
     }
 }
 
-fn tst_shape(target: Target) -> Shape
+fn tst_shape(target: Option<Accumulator>) -> Shape
     ensures { result ≡ tst_shape target }
 {
     match target {
-        Target::In(acc) => Shape::Nothing(Quiet::Tst(acc)),
-        Target::Memory => Shape::Load(Loading::Tst),
+        Some(acc) => Shape::Nothing(Quiet::Tst(acc)),
+        None => Shape::Load(Loading::Tst),
     }
 }
 

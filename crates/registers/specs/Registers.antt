@@ -11,8 +11,7 @@ use Rattle.opcodes.specs.declared.Wide.TheVariants.{Subd, Addd, Cpx, Ldd, Lds, L
 use Rattle.opcodes.specs.declared.WideStore.{WideStore}
 use Rattle.opcodes.specs.declared.WideStore.TheVariants.{Std, Sts, Stx}
 use Rattle.arithmetic.specs.declared.Codes.{Codes}
-use Rattle.arithmetic.specs.declared.Byte.{Byte}
-use Rattle.arithmetic.specs.declared.Word.{Word}
+use Rattle.arithmetic.specs.declared.Outcome.{Outcome}
 use Rattle.arithmetic.specs.Codes.{codes_byte, codes_of}
 use Rattle.arithmetic.specs.Results.{add_of, sub_of, daa_of, mul_of, moved_of, moved16_of, add16_of, sub16_of, asl16_of, lsr16_of, indexed_of}
 use Rattle.registers.specs.declared.Registers.{Registers}
@@ -59,10 +58,10 @@ with_accumulator A c v = with_a c v
 with_accumulator B c v = with_b c v
 
 -- a result with its codes, in an accumulator and in D
-abbrev pub result_in : Accumulator → Registers → Byte → Registers
+abbrev pub result_in : Accumulator → Registers → Outcome ℕ → Registers
 result_in acc c r = with_codes (with_accumulator acc c r.value) r.codes
 
-abbrev pub result_in_d : Registers → Word → Registers
+abbrev pub result_in_d : Registers → Outcome ℕ → Registers
 result_in_d c r = with_codes (with_d c r.value) r.codes
 
 -- the condition codes with V, C or I replaced

@@ -6,7 +6,7 @@ ghost use Rattle.arithmetic.specs.Results.{indexed_of};
 ghost use Rattle.registers.specs.Registers.{with_a, with_b, with_x, with_sp, with_pc, with_codes, with_waiting, idles, d, with_d};
 ghost use Rattle.registers.specs.Registers.{accumulator, with_accumulator, result_in, result_in_d, with_v, with_c, with_i, internal_of, wide_of, stored_of, offset};
 
-use arithmetic::{Byte, Codes, Word};
+use arithmetic::{Codes, Outcome};
 use bits::{lower, minus, pair, plus, upper};
 use opcodes::{Accumulator, Internal, Wide, WideStore};
 
@@ -140,7 +140,7 @@ impl Registers {
     }
 
     // A result with its codes.
-    pub fn result(self, acc: Accumulator, r: Byte) -> Registers
+    pub fn result(self, acc: Accumulator, r: Outcome<u8>) -> Registers
         ensures { result ≡ result_in acc self r }
     {
         let k = r.codes;
@@ -148,21 +148,21 @@ impl Registers {
     }
 
     // The codes of a comparison's result.
-    fn compared(self, r: Byte) -> Registers
+    fn compared(self, r: Outcome<u8>) -> Registers
         ensures { result ≡ with_codes self r.codes }
     {
         let k = r.codes;
         self.with_codes(k)
     }
 
-    fn compared16(self, r: Word) -> Registers
+    fn compared16(self, r: Outcome<u16>) -> Registers
         ensures { result ≡ with_codes self r.codes }
     {
         let k = r.codes;
         self.with_codes(k)
     }
 
-    fn result_double(self, r: Word) -> Registers
+    fn result_double(self, r: Outcome<u16>) -> Registers
         ensures { result ≡ result_in_d self r }
     {
         let k = r.codes;

@@ -19,7 +19,6 @@ use boundary::{Grown, Progress, State, Stop, Watch};
 use chip::Chip;
 use counts::{Cycles, Entries, Instructions, Leaps};
 use machine::Machine;
-use plain::Hop;
 use registers::Registers;
 use serial::Serial;
 use timer::Timer;
@@ -181,12 +180,12 @@ fn stride(session: &[u8], n: u32, s: State, image: &mut [u8]) -> State
         }
         let h = plain::step(c, floor, start, image);
         match h {
-            Hop::Made(k, next) => {
-                c = next;
-                cycles = cycles + k.0;
-                instructions = instructions + 1;
+            Some(hop) => {
+                c = hop.registers;
+                cycles += hop.cycles.0;
+                instructions += 1;
             }
-            Hop::Left => {
+            None => {
                 return strode(s, c, Cycles(cycles), Instructions(instructions));
             }
         }

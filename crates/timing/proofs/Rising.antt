@@ -7,8 +7,7 @@ use mathlib.Core.Bool.{Bool, true, false, cond, ◌&&◌}
 use mathlib.Core.List.{List, [], ◌∷◌}
 use lib.Dec.{T, leb, ltb, leb→le, ltb→lt}
 use Rattle.opcodes.specs.declared.Instruction.{Instruction}
-use Rattle.opcodes.specs.declared.Decoded.{Decoded}
-use Rattle.opcodes.specs.declared.Decoded.TheVariants.{Undefined, Defined}
+use Rattle.std.specs.Prelude.{Option, None, Some}
 use Rattle.opcodes.specs.Opcodes.{decode_of}
 use Rattle.opcodes.proofs.Table.{both, passes}
 use Rattle.timing.specs.Table.{access_cycles, entry_accesses}
@@ -18,13 +17,13 @@ abbrev pub rises : ℕ → ℕ → List ℕ → Bool
 rises last n [] = leb last n
 rises last n (k ∷ ks) = ltb last k && rises k n ks
 
-abbrev risen : Decoded → Bool
-risen Undefined = true
-risen (Defined i) = rises 0 i.cycles (access_cycles i.operation i.place)
+abbrev risen : Option Instruction → Bool
+risen None = true
+risen (Some i) = rises 0 i.cycles (access_cycles i.operation i.place)
 
-pub rising : (opcode : ℕ) (i : Instruction) → decode_of opcode ≡ Defined i → T (rises 0 i.cycles (access_cycles i.operation i.place))
+pub rising : (opcode : ℕ) (i : Instruction) → decode_of opcode ≡ Some i → T (rises 0 i.cycles (access_cycles i.operation i.place))
 unfolding access_cycles
-rising opcode i e = subst (λ (d : Decoded). T (risen d)) e (passes risen tt tt opcode)
+rising opcode i e = subst (λ (d : Option Instruction). T (risen d)) e (passes risen tt tt opcode)
 
 -- an entry has 12 cycles, and 4 out of a wait
 pub entry_rising : (waiting : Bool) → T (rises 0 (cond waiting 4 12) (entry_accesses waiting))

@@ -2,11 +2,11 @@
 use Rattle.listing_lines.specs.Lines.{item_line}
 use Rattle.listing_lines.proofs.item_line.Goals as goal
 
-pub returns-in-Undefined : goal.returns-in-Undefined
+pub returns-in-None : goal.returns-in-None
 unfolding item_line
-returns-in-Undefined c = rw c.in-Undefined.is (rw c.column-bytes.ensures at c.line.ensures)
+returns-in-None c = rw c.in-None.is (rw c.column-bytes.ensures at c.line.ensures)
 
-pub returns-in-Defined : goal.returns-in-Defined
+pub returns-in-Some : goal.returns-in-Some
 unfolding item_line
-returns-in-Defined c = rw c.in-Defined.is
-    (rw (c.column-bytes-in-Defined.ensures, c.mnemonic-name.ensures, c.form_of.ensures, c.operand.ensures) at c.line-in-Defined.ensures)
+returns-in-Some c = rw c.in-Some.is
+    (rw (c.column-bytes-in-Some.ensures, c.mnemonic-name.ensures, c.form_of.ensures, c.operand.ensures) at c.line-in-Some.ensures)

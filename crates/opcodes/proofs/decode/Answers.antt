@@ -1,31 +1,30 @@
 -- `opcodes::decode` meets its contract: the opcodes of each arm by one comparison with the table. Assumes nothing.
-use Rattle.std.proofs.Common.{ℕ, get_or, refl, arith}
+use Rattle.std.proofs.Common.{ℕ, get_or, refl, arith, None}
 use Rattle.opcodes.proofs.Places.{row_at}
 use Rattle.opcodes.specs.Opcodes.{decode_of, row0, row1, row2, row3}
 use Rattle.opcodes.specs.Parts.{one_byte_of, modified_of, two_bytes_of, immediate_of}
 use Rattle.opcodes.specs.declared.Accumulator.TheVariants.{A, B}
 use Rattle.opcodes.specs.declared.Place.TheVariants.{AccumulatorA, AccumulatorB, Direct, Indexed, Extended}
-use Rattle.opcodes.specs.declared.Decoded.TheVariants.{Undefined}
 use Rattle.opcodes.proofs.decode.Goals as goal
 
 pub returns-in-0-to-15 : goal.returns-in-0-to-15
 unfolding decode_of
-returns-in-0-to-15 c = row_at (λ (k : ℕ). get_or row0 k Undefined) 0x00 c.args.opcode
+returns-in-0-to-15 c = row_at (λ (k : ℕ). get_or row0 k None) 0x00 c.args.opcode
     c.row_0.ensures refl (omega arith) (omega arith)
 
 pub returns-in-16-to-31 : goal.returns-in-16-to-31
 unfolding decode_of
-returns-in-16-to-31 c = row_at (λ (k : ℕ). get_or row1 k Undefined) 0x10 c.args.opcode
+returns-in-16-to-31 c = row_at (λ (k : ℕ). get_or row1 k None) 0x10 c.args.opcode
     c.row_1.ensures refl (omega arith) (omega arith)
 
 pub returns-in-32-to-47 : goal.returns-in-32-to-47
 unfolding decode_of
-returns-in-32-to-47 c = row_at (λ (k : ℕ). get_or row2 k Undefined) 0x20 c.args.opcode
+returns-in-32-to-47 c = row_at (λ (k : ℕ). get_or row2 k None) 0x20 c.args.opcode
     c.row_2.ensures refl (omega arith) (omega arith)
 
 pub returns-in-48-to-63 : goal.returns-in-48-to-63
 unfolding decode_of
-returns-in-48-to-63 c = row_at (λ (k : ℕ). get_or row3 k Undefined) 0x30 c.args.opcode
+returns-in-48-to-63 c = row_at (λ (k : ℕ). get_or row3 k None) 0x30 c.args.opcode
     c.row_3.ensures refl (omega arith) (omega arith)
 
 pub returns-in-64-to-79 : goal.returns-in-64-to-79

@@ -3,15 +3,15 @@ use mathlib.Core.Path.{refl, sym, ◌∙◌}
 use Rattle.plain.proofs.Hopping.{hopped}
 use Rattle.plain.proofs.step.Goals as goal
 
-pub returns-in-Made : goal.returns-in-Made
+pub returns-in-Some-2 : goal.returns-in-Some-2
 unfolding Plainly
-returns-in-Made c = hopped _ _ _ _ _ _ _ _ c.if-c-floor.false
+returns-in-Some-2 c = hopped _ _ _ _ _ _ _ _ c.if-c-floor.false
     c.peek.ensures
     (sym c.decode-decoded.ensures
-    ∙ c.in-Defined.is)
+    ∙ c.in-Some.is)
     refl
-    (rw c.in-Made.is at c.execute-t.ensures)
+    (rw c.in-Some-2.is at c.execute-t.ensures)
 
-pub returns-in-Left : goal.returns-in-Left
+pub returns-in-None-2 : goal.returns-in-None-2
 unfolding Plainly
-returns-in-Left c = rw c.in-Left.is at c.execute-t.ensures
+returns-in-None-2 c = rw c.in-None-2.is at c.execute-t.ensures

@@ -1,5 +1,5 @@
 -- `run::stride` meets its contract: each turn is a plain instruction more. Assumes nothing.
-use Rattle.std.proofs.Common.{◌<◌, refl, ap, subst, ◌∙◌, arith}
+use Rattle.std.proofs.Common.{◌<◌, refl, ap, subst, ◌∙◌, arith, Option}
 use Rattle.plain.specs.declared.Hop.{Hop}
 use Rattle.plain.specs.Plainly.{Hopped, Hops}
 use Rattle.boundary.specs.World.{watching, world_of}
@@ -21,11 +21,11 @@ loop-cycles-preserved c =
     let room = c.room-room in
     let floor = c.floor_of-floor in
     let h = c.step-h in
-    let k = c.in-Made.k in
-    let next = c.in-Made.next in
+    let k = c.in-Some.hop.cycles in
+    let next = c.in-Some.hop.registers in
     let start = a.s.machine.chip.bus.r in
     let m : Hopped floor.result start l.c l.image k.0 next h.new.image =
-    subst (λ (x : Hop). Hops floor.result start l.c l.image x h.new.image) c.in-Made.is h.ensures in
+    subst (λ (x : Option Hop). Hops floor.result start l.c l.image x h.new.image) c.in-Some.is h.ensures in
     let u = l.invariant.1 in
     let on = c.if-room-cycles.false in
     let v : l.cycles < room.result = below_room room.result l.cycles _ _ on in

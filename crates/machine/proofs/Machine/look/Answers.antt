@@ -1,10 +1,10 @@
 use Rattle.machine.specs.Steps.{look_of}
 use Rattle.machine.proofs.Machine.look.Goals as goal
 
-pub returns-in-Undefined : goal.returns-in-Undefined
+pub returns-in-None : goal.returns-in-None
 unfolding look_of
-returns-in-Undefined c = rw (← c.opcode.ensures, ← c.decode-decoded.ensures, c.in-Undefined.is)
+returns-in-None c = rw (← c.opcode.ensures, ← c.decode-decoded.ensures, c.in-None.is)
 
-pub returns-in-Defined : goal.returns-in-Defined
+pub returns-in-Some : goal.returns-in-Some
 unfolding look_of
-returns-in-Defined c = rw (← c.opcode.ensures, ← c.decode-decoded.ensures, c.in-Defined.is)
+returns-in-Some c = rw (← c.opcode.ensures, ← c.decode-decoded.ensures, c.in-Some.is)
