@@ -1,6 +1,22 @@
 -- A byte of bits has each of them. Assumes nothing.
 use Rattle.std.proofs.Common.{◌≡◌, ℕ, ◌+◌, ◌*◌, ◌/◌, ◌%◌, ◌≤◌, Bool, true, false, eqb, refl, ap, ◌∙◌, arith}
+use mir.Val.{bool_byte}
 use Rattle.bits.specs.Bits.{weight, bit, byte_of}
+
+-- a bit as the code has it: its number, times its weight
+one : (b : Bool) → bool_byte b ≡ weight b 1
+one true = refl
+one false = refl
+
+weighed : (b : Bool) (w : ℕ) → bool_byte b * w ≡ weight b w
+weighed true w = omega arith
+weighed false w = omega arith
+
+pub byte_summed : (b0 b1 b2 b3 b4 b5 b6 b7 : Bool)
+    → bool_byte b0 + bool_byte b1 * 2 + bool_byte b2 * 4 + bool_byte b3 * 8 + bool_byte b4 * 16 + bool_byte b5 * 32 + bool_byte b6 * 64 + bool_byte b7 * 128
+    ≡ byte_of b0 b1 b2 b3 b4 b5 b6 b7
+byte_summed b0 b1 b2 b3 b4 b5 b6 b7 = λ i.
+    one b0 i + weighed b1 2 i + weighed b2 4 i + weighed b3 8 i + weighed b4 16 i + weighed b5 32 i + weighed b6 64 i + weighed b7 128 i
 
 pub bool_kept : (b : Bool) → eqb (weight b 1) 1 ≡ b
 bool_kept true = refl
