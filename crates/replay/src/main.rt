@@ -2,8 +2,6 @@
 // Standard input has the cases: tools/vectors.py says how.
 #![tactic(auto)]
 
-ghost use Rattle.std.specs.Prelude.{◌≤◌};
-
 use arithmetic::Codes;
 use bus::peek;
 use chip::Chip;
@@ -34,7 +32,6 @@ const LONGEST: usize = 61;
 // What is not as it was seen. `Undefined` is an opcode that runs nothing, `Beside` the byte before or after a cell.
 #[derive(Clone, Copy)]
 enum Difference {
-    Nothing,
     Undefined,
     Pc,
     A,
@@ -57,12 +54,12 @@ struct Cell {
     after: u8,
 }
 
+// The cases so far, how many of them differ, and the first that does with its difference.
 #[derive(Clone, Copy)]
 struct Tally {
     cases: u64,
     differing: u64,
-    first: u64,
-    difference: Difference,
+    first: Option<(u64, Difference)>,
 }
 
 // The emulator leaves the top two bits of the codes as they came after TAP and RTI, where 01 forces them to 1.
@@ -76,9 +73,8 @@ fn word(case: &[u8], at: u16) -> u16 {
 }
 
 fn put(image: &mut [u8], at: u16, v: u8) {
-    let i = at as usize;
-    if i < image.len() {
-        image[i] = v;
+    if let Some(cell) = image.get_mut(at as usize) {
+        *cell = v;
     }
 }
 
@@ -107,7 +103,7 @@ fn take_cells(case: &[u8], image: &mut [u8]) -> bool {
     let mut differ = false;
     for k in 0..n {
         let c = cell_at(case, k);
-        differ = differ | (peek(image, c.at) != c.after);
+        differ |= peek(image, c.at) != c.after;
         put(image, c.at, BACKGROUND);
     }
     differ
@@ -119,9 +115,8 @@ fn beside_differs(case: &[u8], image: &[u8]) -> bool {
     let mut differ = false;
     for k in 0..n {
         let at = cell_at(case, k).at;
-        differ = differ
-            | (peek(image, bits::minus(at, 1)) != BACKGROUND)
-            | (peek(image, bits::plus(at, 1)) != BACKGROUND);
+        differ |= peek(image, bits::minus(at, 1)) != BACKGROUND;
+        differ |= peek(image, bits::plus(at, 1)) != BACKGROUND;
     }
     differ
 }
@@ -137,68 +132,62 @@ fn start(machine: Machine, case: &[u8]) -> Machine {
         codes: Codes::from_byte(peek(case, 8)),
         waiting: false,
     };
-    let bus = machine.chip.bus;
-    let chip = Chip {
-        registers: registers,
-        bus: bus,
-    };
     Machine {
-        chip: chip,
+        chip: Chip {
+            registers,
+            ..machine.chip
+        },
         irq1: true,
         nmi: false,
     }
 }
 
-fn compare_registers(registers: Registers, case: &[u8]) -> Difference {
+fn compare_registers(registers: Registers, case: &[u8]) -> Result<(), Difference> {
     if registers.pc != word(case, AFTER) {
-        return Difference::Pc;
+        return Err(Difference::Pc);
     }
     if registers.a != peek(case, AFTER + 2) {
-        return Difference::A;
+        return Err(Difference::A);
     }
     if registers.b != peek(case, AFTER + 3) {
-        return Difference::B;
+        return Err(Difference::B);
     }
     if registers.x != word(case, AFTER + 4) {
-        return Difference::X;
+        return Err(Difference::X);
     }
     if registers.sp != word(case, AFTER + 6) {
-        return Difference::Sp;
+        return Err(Difference::Sp);
     }
     if registers.codes.to_byte() != codes_seen(peek(case, AFTER + 8)) {
-        return Difference::Codes;
+        return Err(Difference::Codes);
     }
-    Difference::Nothing
+    Ok(())
 }
 
-fn compare_time(moved: Moved, case: &[u8]) -> Difference {
+fn compare_time(moved: Moved, case: &[u8]) -> Result<(), Difference> {
     let cycles = peek(case, CYCLES);
     if moved.machine.chip.registers.waiting != (peek(case, WAITS) == 1) {
-        return Difference::Waiting;
+        return Err(Difference::Waiting);
     }
     if moved.cycles.0 != cycles as u32 {
-        return Difference::Cycles;
+        return Err(Difference::Cycles);
     }
     if moved.machine.chip.bus.timer.counter != cycles as u16 {
-        return Difference::Counter;
+        return Err(Difference::Counter);
     }
-    Difference::Nothing
+    Ok(())
 }
 
 // The first difference after the instruction, and the image as it was before the case.
-fn compare(moved: Moved, case: &[u8], image: &mut [u8]) -> Difference {
+fn compare(moved: Moved, case: &[u8], image: &mut [u8]) -> Result<(), Difference> {
     if take_cells(case, image) {
-        return Difference::Cell;
+        return Err(Difference::Cell);
     }
     if beside_differs(case, image) {
-        return Difference::Beside;
+        return Err(Difference::Beside);
     }
-    let time = compare_time(moved, case);
-    let registers = moved.machine.chip.registers;
-    match time {
-        Difference::Nothing => compare_registers(registers, case),
-        _ => time,
-    }
+    compare_time(moved, case)?;
+    compare_registers(moved.machine.chip.registers, case)
 }
 
 // One step; bit 6 of $14 is set, so that no byte of the area is met.
@@ -208,62 +197,39 @@ fn step(m: Machine, i: Instruction, image: &mut [u8]) -> Moved {
 }
 
 // The instruction at PC, and what it left.
-fn executed(m: Machine, case: &[u8], image: &mut [u8]) -> Difference {
+fn executed(m: Machine, case: &[u8], image: &mut [u8]) -> Result<(), Difference> {
     let Look::Runs(i) = m.look(image, b"") else {
         take_cells(case, image);
-        return Difference::Undefined;
+        return Err(Difference::Undefined);
     };
     compare(step(m, i, image), case, image)
 }
 
-fn replay(machine: Machine, case: &[u8], image: &mut [u8]) -> Difference {
+fn replay(machine: Machine, case: &[u8], image: &mut [u8]) -> Result<(), Difference> {
     place(case, image);
     executed(start(machine, case), case, image)
 }
 
 impl Tally {
-    fn with(self, difference: Difference) -> Tally {
-        let cases = std::num::wrapping_add_u64(self.cases, 1);
-        let earlier = self.difference;
-        match difference {
-            Difference::Nothing => Tally {
-                cases: cases,
-                differing: self.differing,
-                first: self.first,
-                difference: earlier,
+    fn with(self, seen: Result<(), Difference>) -> Tally {
+        let cases = self.cases.wrapping_add(1);
+        match seen {
+            Ok(()) => Tally { cases, ..self },
+            Err(difference) => Tally {
+                cases,
+                differing: self.differing.wrapping_add(1),
+                first: self.first.or(Some((cases, difference))),
             },
-            _ => self.differ(cases, difference),
-        }
-    }
-
-    fn differ(self, cases: u64, difference: Difference) -> Tally {
-        let differing = std::num::wrapping_add_u64(self.differing, 1);
-        let earlier = self.difference;
-        if self.differing == 0 {
-            return Tally {
-                cases: cases,
-                differing: differing,
-                first: cases,
-                difference: difference,
-            };
-        }
-        Tally {
-            cases: cases,
-            differing: differing,
-            first: self.first,
-            difference: earlier,
         }
     }
 }
 
-// Fills a part of the case, if the input has so much.
-fn read_part(source: &mut impl Read, case: &mut [u8], start: usize, end: usize) -> bool
-    requires { start ≤ end }
-{
-    if case.len() < end {
+// Fills a part of the case, if there is such a part and the input has so much.
+fn read_part(source: &mut impl Read, case: &mut [u8], start: usize, end: usize) -> bool {
+    let Some(part) = case.get_mut(start..end) else {
         return false;
-    }
-    host::read_full(source, &mut case[start..end]) == end - start
+    };
+    host::read_full(source, part) == part.len()
 }
 
 // The next case, if the input has another whole one.
@@ -274,60 +240,51 @@ fn read_case(source: &mut impl Read, case: &mut [u8]) -> bool {
 
 // Every case, on the same machine and image. A proved loop has to end, and nothing says that the input does.
 fn replay_all(source: &mut impl Read, machine: Machine, image: &mut [u8]) -> Tally {
-    let none = Difference::Nothing;
     let mut tally = Tally {
         cases: 0,
         differing: 0,
-        first: 0,
-        difference: none,
+        first: None,
     };
     let mut case = [0u8; LONGEST];
-    let mut turns = u32::MAX;
-    while turns > 0 && read_case(source, &mut case) {
+    for _ in 0..u32::MAX {
+        if !read_case(source, &mut case) {
+            break;
+        }
         tally = tally.with(replay(machine, &case, image));
-        turns -= 1;
     }
     tally
 }
 
-fn is_background(image: &[u8]) -> bool {
-    let mut same = true;
-    for i in 0..image.len() {
-        same = same & (image[i] == BACKGROUND);
+impl Difference {
+    fn name(self) -> &'static [u8] {
+        match self {
+            Difference::Undefined => b"undefined",
+            Difference::Pc => b"pc",
+            Difference::A => b"a",
+            Difference::B => b"b",
+            Difference::X => b"x",
+            Difference::Sp => b"sp",
+            Difference::Codes => b"codes",
+            Difference::Waiting => b"waiting",
+            Difference::Cycles => b"cycles",
+            Difference::Counter => b"counter",
+            Difference::Cell => b"cell",
+            Difference::Beside => b"beside",
+        }
     }
-    same
-}
-
-fn name(rt: &impl Print, difference: Difference) {
-    match difference {
-        Difference::Nothing => host::show(rt, b"nothing"),
-        Difference::Undefined => host::show(rt, b"undefined"),
-        Difference::Pc => host::show(rt, b"pc"),
-        Difference::A => host::show(rt, b"a"),
-        Difference::B => host::show(rt, b"b"),
-        Difference::X => host::show(rt, b"x"),
-        Difference::Sp => host::show(rt, b"sp"),
-        Difference::Codes => host::show(rt, b"codes"),
-        Difference::Waiting => host::show(rt, b"waiting"),
-        Difference::Cycles => host::show(rt, b"cycles"),
-        Difference::Counter => host::show(rt, b"counter"),
-        Difference::Cell => host::show(rt, b"cell"),
-        Difference::Beside => host::show(rt, b"beside"),
-    };
 }
 
 fn report(rt: &impl Print, tally: Tally) {
-    let difference = tally.difference;
     host::show(rt, b"cases ");
     host::show_decimal(rt, tally.cases);
     host::show(rt, b" differ ");
     host::show_decimal(rt, tally.differing);
     host::show(rt, b"\n");
-    if tally.differing > 0 {
+    if let Some((first, difference)) = tally.first {
         host::show(rt, b"first ");
-        host::show_decimal(rt, tally.first);
+        host::show_decimal(rt, first);
         host::show(rt, b" in ");
-        name(rt, difference);
+        host::show(rt, difference.name());
         host::show(rt, b"\n");
     }
 }
@@ -338,7 +295,7 @@ fn main(rt: HostRuntime) {
         return;
     };
     report(&rt, replay_all(&mut rt.stdin(), machine, &mut image));
-    if !is_background(&image) {
+    if image.iter().any(|byte| *byte != BACKGROUND) {
         host::show(&rt, b"a byte changed that is no cell\n");
     }
 }
