@@ -1,12 +1,11 @@
 // The assembler program: LISTING BYTES. It puts the bytes of a listing's text into the file BYTES, whole or not at all, and prints one line.
 #![tactic(auto)]
 
-use assembling::Assembled;
+use assembling::{AssembleRefusal, Span};
 use std::fs::Files;
-use std::io::Result;
 
 // The folder in which a file lies, open.
-fn open_home<R: Files>(rt: &R, name: &[u8]) -> Result<R::File> {
+fn open_home<R: Files>(rt: &R, name: &[u8]) -> std::io::Result<R::File> {
     let at = night_names::last_at(name);
     if at == 0 {
         return host::open(rt, b".");
@@ -50,7 +49,7 @@ fn keep(rt: &impl Files, name: &[u8], bytes: &[u8]) -> bool {
     host::sync(home) & placed
 }
 
-fn tell(rt: &(impl Files + Print), name: &[u8], bytes: &[u8], answer: Assembled) {
+fn tell(rt: &(impl Files + Print), name: &[u8], bytes: &[u8], answer: Result<Option<Span>, AssembleRefusal>) {
     if keep(rt, name, bytes) {
         listing_answers::assembled_line(answer).print(rt);
     } else {
@@ -62,9 +61,9 @@ fn assemble(rt: &(impl Files + Print), name: &[u8], text: &[u8]) {
     let mut bytes = io::large_buffer();
     let answer = assembling::assemble(text, &mut bytes);
     match answer {
-        Assembled::Wrote(_, n) => tell(rt, name, asking::filled(&bytes, n), answer),
-        Assembled::Empty => tell(rt, name, b"", answer),
-        _ => listing_answers::assembled_line(answer).print(rt),
+        Ok(Some(span)) => tell(rt, name, asking::filled(&bytes, span.bytes), answer),
+        Ok(None) => tell(rt, name, b"", answer),
+        Err(_) => listing_answers::assembled_line(answer).print(rt),
     }
 }
 

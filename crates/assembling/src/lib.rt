@@ -4,18 +4,12 @@
 ghost use Rattle.std.specs.Prelude.{◌≡◌, ◌+◌, ◌≤◌, length};
 ghost use Rattle.std.proofs.lemmas.List.Edits.{sets};
 ghost use Rattle.listing_codes.specs.Keys.{Keys};
+ghost use Rattle.listing_reading.specs.Reading.{line_in};
 ghost use Rattle.assembling.specs.Assembling.{piece_bytes, follows, line_step, outcome_of, good, bytes_in};
 ghost use Rattle.assembling.specs.Checks.{checked_of, refusal_of};
 ghost use Rattle.assembling.specs.Assembling.{told_assembled, assemble_answer, assemble_buffer};
 
-use listing_codes::{Piece, Read};
-
-// Where the next line has to be.
-#[derive(Clone, Copy)]
-pub enum Due {
-    Anywhere,
-    At(u32),
-}
+use listing_codes::{Line, Piece, Unread};
 
 // What is wrong with a line: it is not of the published form or does not follow on; its branch target is beyond its offset.
 #[derive(Clone, Copy)]
@@ -24,84 +18,88 @@ pub enum Fault {
     TooFar,
 }
 
-// What one line does: the text is refused, or the line's bytes and characters are taken.
+// The first line's address, and how many bytes were written.
 #[derive(Clone, Copy)]
-pub enum Step {
-    Stops(Fault),
-    Takes(Piece, u8),
+pub struct Span {
+    pub first: u16,
+    pub bytes: usize,
 }
 
-// The first bad line, counted from 1, or how many bytes a text has.
+// Why no bytes were written: by a text's first bad line, counted from 1; or the buffer is shorter than its bytes.
 #[derive(Clone, Copy)]
-pub enum Checked {
-    Bad(Fault, usize),
-    Sound(usize),
-}
-
-// The first line's address and how many bytes were written; or the text is empty; or its first bad line, counted from 1; or the buffer is shorter than
-// its bytes.
-#[derive(Clone, Copy)]
-pub enum Assembled {
-    Wrote(u16, usize),
-    Empty,
+pub enum AssembleRefusal {
     Malformed(usize),
     TooFar(usize),
     NoRoom,
 }
 
-fn follows_on(due: Due, address: u16) -> bool
+// Whether a line may be at an address: the first one anywhere, each other one where it is due.
+fn follows_on(due: Option<u32>, address: u16) -> bool
     ensures { result ≡ follows due address }
 {
     match due {
-        Due::Anywhere => true,
-        Due::At(next) => next == address as u32,
+        None => true,
+        Some(next) => next == address as u32,
     }
 }
 
-// What a line does where the one before it has ended.
-fn step_on(read: Read, due: Due) -> Step
+// A line read is taken where the one before it has ended.
+fn step_on(read: Result<Line, Unread>, due: Option<u32>) -> Result<Line, Fault>
     ensures { result ≡ line_step read due }
 {
     match read {
-        Read::Bad => Step::Stops(Fault::Malformed),
-        Read::Far(address) => if follows_on(due, address) {
-            Step::Stops(Fault::TooFar)
+        Err(Unread::Bad) => Err(Fault::Malformed),
+        Err(Unread::Far(address)) => if follows_on(due, address) {
+            Err(Fault::TooFar)
         } else {
-            Step::Stops(Fault::Malformed)
+            Err(Fault::Malformed)
         },
-        Read::Line(p, size) => if follows_on(due, p.address) {
-            Step::Takes(p, size)
+        Ok(line) => if follows_on(due, line.piece.address) {
+            Ok(line)
         } else {
-            Step::Stops(Fault::Malformed)
+            Err(Fault::Malformed)
         },
     }
 }
 
-// The first pass: nothing is written.
-fn check(keys: &[u64], text: &[u8]) -> Checked
+// The line that a text begins with, where one is due.
+fn next_line(keys: &[u64], text: &[u8], due: Option<u32>) -> Result<Line, Fault>
+    requires { Keys keys.now }
+    ensures { result ≡ line_step (line_in text.now) due }
+{
+    step_on(listing_reading::read_line(keys, text), due)
+}
+
+fn refusal(fault: Fault, line: usize) -> AssembleRefusal
+    ensures { result ≡ refusal_of fault line }
+{
+    match fault {
+        Fault::Malformed => AssembleRefusal::Malformed(line),
+        Fault::TooFar => AssembleRefusal::TooFar(line),
+    }
+}
+
+// The first pass: nothing is written. The answer is how many bytes a text has.
+fn check(keys: &[u64], text: &[u8]) -> Result<usize, AssembleRefusal>
     requires { Keys keys.now }
     ensures { result ≡ checked_of 0 (outcome_of text.now) }
 {
     let mut at = 0;
-    let mut due = Due::Anywhere;
+    let mut due = None;
     let mut line: usize = 1;
     let mut n: usize = 0;
     while at < text.len() {
-        let read = listing_reading::read_line(keys, &text[at..]);
-        let step = step_on(read, due);
-        match step {
-            Step::Stops(fault) => {
-                return Checked::Bad(fault, line);
-            }
-            Step::Takes(p, size) => {
-                due = Due::At(p.address as u32 + p.length as u32);
-                at = at + size as usize;
-                line = line + 1;
-                n = n + p.length as usize;
+        match next_line(keys, &text[at..], due) {
+            Err(fault) => return Err(refusal(fault, line)),
+            Ok(Line { piece: p, size }) => {
+                due = Some(p.address as u32 + p.length as u32);
+                at += size as usize;
+                line += 1;
+                n += p.length as usize;
             }
         }
     }
-    Checked::Sound(n)
+    Ok(n)
 }
 
 // A line's bytes are put into a buffer.
@@ -121,52 +119,33 @@ fn write(keys: &[u64], text: &[u8], buffer: &mut [u8])
     ensures { buffer.new ≡ sets buffer.old 0 (bytes_in (outcome_of text.now)) }
 {
     let mut at = 0;
-    let mut due = Due::Anywhere;
+    let mut due = None;
     let mut to: usize = 0;
     while at < text.len() {
-        let read = listing_reading::read_line(keys, &text[at..]);
-        let step = step_on(read, due);
-        match step {
-            Step::Stops(_) => {
-                return;
-            }
-            Step::Takes(p, size) => {
-                put(p, to, buffer);
-                due = Due::At(p.address as u32 + p.length as u32);
-                at = at + size as usize;
-                to = to + p.length as usize;
-            }
-        }
+        let Ok(Line { piece: p, size }) = next_line(keys, &text[at..], due) else {
+            return;
+        };
+        put(p, to, buffer);
+        due = Some(p.address as u32 + p.length as u32);
+        at += size as usize;
+        to += p.length as usize;
     }
 }
 
-fn refusal(fault: Fault, line: usize) -> Assembled
-    ensures { result ≡ refusal_of fault line }
-{
-    match fault {
-        Fault::Malformed => Assembled::Malformed(line),
-        Fault::TooFar => Assembled::TooFar(line),
-    }
-}
-
-// The bytes of a listing's text at the buffer's front.
-pub fn assemble(text: &[u8], buffer: &mut [u8]) -> Assembled
+// The bytes of a listing's text at the buffer's front; nothing of an empty text.
+pub fn assemble(text: &[u8], buffer: &mut [u8]) -> Result<Option<Span>, AssembleRefusal>
     ensures { (told_assembled result ≡ assemble_answer text.now buffer.old)
         × (buffer.new ≡ assemble_buffer text.now buffer.old) }
 {
-    if text.len() == 0 {
-        return Assembled::Empty;
+    if text.is_empty() {
+        return Ok(None);
     }
     let keys = listing_codes::keys();
-    let checked = check(&keys, text);
-    match checked {
-        Checked::Bad(fault, line) => refusal(fault, line),
-        Checked::Sound(n) => {
-            if buffer.len() < n {
-                return Assembled::NoRoom;
-            }
-            write(&keys, text, buffer);
-            Assembled::Wrote(listing_reading::address_in(text), n)
-        }
+    let bytes = check(&keys, text)?;
+    if buffer.len() < bytes {
+        return Err(AssembleRefusal::NoRoom);
     }
+    write(&keys, text, buffer);
+    let first = listing_reading::address_in(text);
+    Ok(Some(Span { first, bytes }))
 }

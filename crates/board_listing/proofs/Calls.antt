@@ -4,10 +4,12 @@ use mathlib.Core.List.{List}
 use mathlib.Core.Path.{◌≡◌, sym, ap, ◌∙◌}
 use lib.ListN.{length}
 use borrow.Author.Tests.{lt-ltb, le-ltb}
+use Rattle.std.specs.Prelude.{Option, Result}
 use Rattle.laws.proofs.Conds.{picks, passes}
-use Rattle.listing.specs.declared.Listed.{Listed}
+use Rattle.listing.specs.declared.ListRefusal.{ListRefusal}
 use Rattle.listing.specs.Listing.{told_listed, list_answer, list_buffer}
-use Rattle.assembling.specs.declared.Assembled.{Assembled}
+use Rattle.assembling.specs.declared.Span.{Span}
+use Rattle.assembling.specs.declared.AssembleRefusal.{AssembleRefusal}
 use Rattle.assembling.specs.Assembling.{told_assembled, assemble_answer, assemble_buffer}
 use Rattle.board_results.specs.Returned.{returned}
 use Rattle.board_listing.specs.Calls.{on_list, list_call, on_assemble, assemble_call}
@@ -17,7 +19,7 @@ module _ (image : List ℕ) (first last : ℕ) (buffer result : List ℕ) where
   unfolding list_call
   list_short h = sym (picks _ _ (lt-ltb _ _ h))
 
-  pub list_left : {a : Listed} (b : Listed) {left : List ℕ} → 8 ≤ length result
+  pub list_left : {a : Result ℕ ListRefusal} (b : Result ℕ ListRefusal) {left : List ℕ} → 8 ≤ length result
       → (told_listed a ≡ list_answer image first last buffer) × (left ≡ list_buffer image first last buffer) → a ≡ b
       → on_list left result (told_listed b) ≡ list_call image first last buffer result
   unfolding list_call
@@ -30,7 +32,7 @@ module _ (text buffer result : List ℕ) where
   unfolding assemble_call
   assemble_short h = sym (picks _ _ (lt-ltb _ _ h))
 
-  pub assemble_left : {a : Assembled} (b : Assembled) {left : List ℕ} → 16 ≤ length result
+  pub assemble_left : {a : Result (Option Span) AssembleRefusal} (b : Result (Option Span) AssembleRefusal) {left : List ℕ} → 16 ≤ length result
       → (told_assembled a ≡ assemble_answer text buffer) × (left ≡ assemble_buffer text buffer) → a ≡ b
       → on_assemble left result (told_assembled b) ≡ assemble_call text buffer result
   unfolding assemble_call

@@ -6,8 +6,8 @@ ghost use Rattle.std.specs.Prelude.{◌≡◌, ◌≤◌, length};
 ghost use Rattle.board_results.specs.Returned.{returned};
 ghost use Rattle.board_listing.specs.Calls.{list_call, span_in, assemble_call};
 
-use assembling::Assembled;
-use listing::Listed;
+use assembling::{AssembleRefusal, Span};
+use listing::ListRefusal;
 
 // The listing of first to last, both included.
 pub fn list(image: &[u8], first: u32, last: u32, buffer: &mut [u8], res: &mut [u8]) -> u32
@@ -19,10 +19,10 @@ pub fn list(image: &[u8], first: u32, last: u32, buffer: &mut [u8], res: &mut [u
     }
     let listed = listing::list(image, first, last, buffer);
     match listed {
-        Listed::Wrote(n) => board_results::tell(0, n, res),
-        Listed::WrongImage => 1,
-        Listed::WrongRange => 22,
-        Listed::NoRoom => 23,
+        Ok(n) => board_results::tell(0, n, res),
+        Err(ListRefusal::WrongImage) => 1,
+        Err(ListRefusal::WrongRange) => 22,
+        Err(ListRefusal::NoRoom) => 23,
     }
 }
 
@@ -45,16 +45,16 @@ pub fn assemble(text: &[u8], buffer: &mut [u8], res: &mut [u8]) -> u32
     }
     let assembled = assembling::assemble(text, buffer);
     match assembled {
-        Assembled::Wrote(first, n) => {
-            tell_span(n, first, res);
+        Ok(Some(Span { first, bytes })) => {
+            tell_span(bytes, first, res);
             0
         }
-        Assembled::Empty => {
+        Ok(None) => {
             tell_span(0, 0, res);
             0
         }
-        Assembled::Malformed(line) => board_results::tell(13, line, res),
-        Assembled::TooFar(line) => board_results::tell(14, line, res),
-        Assembled::NoRoom => 23,
+        Err(AssembleRefusal::Malformed(line)) => board_results::tell(13, line, res),
+        Err(AssembleRefusal::TooFar(line)) => board_results::tell(14, line, res),
+        Err(AssembleRefusal::NoRoom) => 23,
     }
 }

@@ -1,11 +1,9 @@
 -- 02's map of which ROM has run: "a lent map of 8,192 bytes, one bit an address, lowest bit first, set where an executed instruction began", beside it
 -- "a running total", and the search for the first address that never ran.
-use Rattle.std.specs.Prelude.{ℕ, zero, suc, ◌+◌, ◌-◌, ◌/◌, ◌%◌, ◌^◌, Bool, cond, ◌&&◌, List, [], ◌∷◌, eqb, length, get_or, set}
-use Rattle.std.proofs.Math.Option.{Option, none, some}
+use Rattle.std.specs.Prelude.{ℕ, zero, suc, ◌+◌, ◌-◌, ◌/◌, ◌%◌, ◌^◌, Bool, cond, ◌&&◌, List, [], ◌∷◌, eqb, length, get_or, set, Option, Some, None, Result, Ok, Err}
 use Rattle.std.specs.Int.Count.{ones}
 use Rattle.asking.specs.Asking.{Given, gives, replies}
-use Rattle.execution_map.specs.declared.Unrun.{Unrun}
-use Rattle.execution_map.specs.declared.Unrun.TheVariants.{At, Nowhere, WrongMap}
+use Rattle.execution_map.specs.declared.WrongMap.{WrongMap}
 
 -- the map's bytes, and the total stated or kept beside them
 pub record Map : Type 0 where
@@ -45,15 +43,14 @@ unrun_from bytes at (suc n) =
     cond (has_run bytes at) (unrun_from bytes (at + 1) n) (at ∷ unrun_from bytes (at + 1) n)
 
 abbrev pub first_of : List ℕ → Option ℕ
-first_of [] = none
-first_of (a ∷ rest) = some a
+first_of [] = None
+first_of (a ∷ rest) = Some a
 
 -- the answer: 15 for a "map of a wrong length" (it is told no total), else "the first address in a range that never ran, or none (as for a backward range)"
 unfoldable pub unrun_answer : List ℕ → ℕ → ℕ → Given (Option ℕ)
 unrun_answer bytes first last =
     cond (eqb (length bytes) 8192) (gives (first_of (unrun_from bytes first (last + 1 - first)))) (replies 15)
 
-abbrev pub told_search : Unrun → Given (Option ℕ)
-told_search (At a) = gives (some a)
-told_search Nowhere = gives none
-told_search WrongMap = replies 15
+abbrev pub told_search : Result (Option ℕ) WrongMap → Given (Option ℕ)
+told_search (Ok found) = gives found
+told_search (Err e) = replies 15

@@ -4,13 +4,9 @@
 ghost use Rattle.std.specs.Prelude.{◌≡◌, true, ◌+◌, ◌<◌, ◌^◌, length};
 ghost use Rattle.execution_map.specs.Map.{map_of, has_run, marked, begun_at, ones_of, is_sound, told_search, unrun_answer};
 
-// What the search for an address that never ran gives.
+// The map has not its 8,192 bytes.
 #[derive(Clone, Copy)]
-pub enum Unrun {
-    At(u16),
-    Nowhere,
-    WrongMap,
-}
+pub struct WrongMap;
 
 // Whether an instruction began at this address; past the map's end all count as set.
 pub fn has_run(map: &[u8], at: u16) -> bool
@@ -37,7 +33,7 @@ fn mark(map: &mut [u8], total: &mut u32, at: u16)
         return;
     }
     map[i] = byte | (1 << (at % 8));
-    *total = *total + 1;
+    *total += 1;
 }
 
 // .. where the map is kept.
@@ -56,10 +52,8 @@ fn ones(map: &[u8]) -> u64
     ensures { result ≡ ones_of map.now }
 {
     let mut sum = 0;
-    let mut i = 0;
-    while i < map.len() {
-        sum = sum + u8::count_ones(map[i]) as u64;
-        i = i + 1;
+    for byte in map {
+        sum += byte.count_ones() as u64;
     }
     sum
 }
@@ -68,25 +62,20 @@ fn ones(map: &[u8]) -> u64
 pub fn is_sound(map: &[u8], total: u32) -> bool
     ensures { result ≡ is_sound (map_of map.now total) }
 {
-    if map.len() != 8192 {
-        return false;
-    }
-    ones(map) == total as u64
+    map.len() == 8192 && ones(map) == total as u64
 }
 
 // The first address from `first` to `last`, both included, at which no instruction began.
-pub fn first_unrun(map: &[u8], first: u16, last: u16) -> Unrun
+pub fn first_unrun(map: &[u8], first: u16, last: u16) -> Result<Option<u16>, WrongMap>
     ensures { told_search result ≡ unrun_answer map.now first last }
 {
     if map.len() != 8192 {
-        return Unrun::WrongMap;
+        return Err(WrongMap);
     }
-    let mut at = first as u32;
-    while at <= last as u32 {
-        if !has_run(map, at as u16) {
-            return Unrun::At(at as u16);
+    for at in first..=last {
+        if !has_run(map, at) {
+            return Ok(Some(at));
         }
-        at = at + 1;
     }
-    Unrun::Nowhere
+    Ok(None)
 }

@@ -1,8 +1,7 @@
 // The lister program: IMAGE FIRST LAST. It prints the listing of a range of the image, or one refusal.
 #![tactic(auto)]
 
-use listing::Listed;
-use listing_arguments::Number;
+use listing::ListRefusal;
 use std::env::Env;
 use std::fs::Files;
 
@@ -12,12 +11,12 @@ fn list(rt: &impl Print, image: &[u8], first: u32, last: u32) {
     let mut buffer = host::zeros::<1638400>();
     let listed = listing::list(image, first, last, &mut buffer);
     match listed {
-        Listed::Wrote(n) => {
+        Ok(n) => {
             host::show(rt, asking::filled(&buffer, n));
         }
-        Listed::WrongImage => lines::refuse(rt, 1),
-        Listed::WrongRange => lines::refuse(rt, 22),
-        Listed::NoRoom => lines::refuse(rt, 23),
+        Err(ListRefusal::WrongImage) => lines::refuse(rt, 1),
+        Err(ListRefusal::WrongRange) => lines::refuse(rt, 22),
+        Err(ListRefusal::NoRoom) => lines::refuse(rt, 23),
     }
 }
 
@@ -37,7 +36,7 @@ fn list_file(rt: &(impl Files + Print), name: &[u8], first: u32, last: u32) {
 }
 
 // The number that an argument of at most 16 characters is.
-fn number_at(rt: &impl Env, i: usize) -> Number {
+fn number_at(rt: &impl Env, i: usize) -> Option<u32> {
     let mut text = [0u8; 16];
     let n = host::argument(rt, i, &mut text);
     listing_arguments::hexadecimal(&text[..n])
@@ -48,11 +47,7 @@ fn main(rt: HostRuntime) {
     let n = host::argument(&rt, 1, &mut name);
     let from = number_at(&rt, 2);
     let to = number_at(&rt, 3);
-    let Number::Is(first) = from else {
-        lines::refuse(&rt, 32);
-        return;
-    };
-    let Number::Is(last) = to else {
+    let (Some(first), Some(last)) = (from, to) else {
         lines::refuse(&rt, 32);
         return;
     };

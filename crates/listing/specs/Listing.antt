@@ -1,12 +1,12 @@
 -- The listing of a range of an image, one line after the other, and what the call `list` answers and leaves for all inputs.
-use Rattle.std.specs.Prelude.{ℕ, zero, suc, ◌+◌, ◌-◌, List, [], ◌++◌, Bool, cond, not, ◌||◌, ltb, eqb, get_or, length, Option, None, Some}
+use Rattle.std.specs.Prelude.{ℕ, zero, suc, ◌+◌, ◌-◌, List, [], ◌++◌, Bool, cond, not, ◌||◌, ltb, eqb, get_or, length, Option, None, Some, Result, Ok, Err}
 use Rattle.numbers.specs.Numbers.{over}
 use Rattle.opcodes.specs.Opcodes.{decode_of}
 use Rattle.opcodes.specs.declared.Instruction.{Instruction}
 use Rattle.asking.specs.Asking.{Given, gives, replies}
 use Rattle.listing_lines.specs.Lines.{bytes_of, item_line}
-use Rattle.listing.specs.declared.Listed.{Listed}
-use Rattle.listing.specs.declared.Listed.TheVariants.{Wrote, WrongImage, WrongRange, NoRoom}
+use Rattle.listing.specs.declared.ListRefusal.{ListRefusal}
+use Rattle.listing.specs.declared.ListRefusal.TheVariants.{WrongImage, WrongRange, NoRoom}
 
 -- "Image bytes are listed as they lie, $00 to $1F included"
 abbrev pub image_byte : List ℕ → ℕ → ℕ
@@ -43,11 +43,11 @@ abbrev pub is_bad_range : ℕ → ℕ → Bool
 is_bad_range first last = ltb 65535 last || ltb last first
 
 -- how many characters were written; or 1, 22, 23
-abbrev pub told_listed : Listed → Given ℕ
-told_listed (Wrote n) = gives n
-told_listed WrongImage = replies 1
-told_listed WrongRange = replies 22
-told_listed NoRoom = replies 23
+abbrev pub told_listed : Result ℕ ListRefusal → Given ℕ
+told_listed (Ok n) = gives n
+told_listed (Err WrongImage) = replies 1
+told_listed (Err WrongRange) = replies 22
+told_listed (Err NoRoom) = replies 23
 
 unfoldable pub list_answer : List ℕ → ℕ → ℕ → List ℕ → Given ℕ
 list_answer image first last buffer =

@@ -9,11 +9,9 @@ ghost use Rattle.listing.specs.Listing.{image_byte, fitting_in, shown_at, listin
 use listing_lines::Text;
 use opcodes::Instruction;
 
-// The listing was written and is so many characters long; or the image is not 65,536 bytes; or the range goes past $FFFF or backward; or the buffer is
-// shorter than the listing.
+// Why there is no listing: the image is not 65,536 bytes; or the range goes past $FFFF or backward; or the buffer is shorter than the listing.
 #[derive(Clone, Copy)]
-pub enum Listed {
-    Wrote(usize),
+pub enum ListRefusal {
     WrongImage,
     WrongRange,
     NoRoom,
@@ -119,22 +117,22 @@ fn write(image: &[u8], first: usize, last: usize, buffer: &mut [u8])
     }
 }
 
-// The listing of first to last, both included, at the buffer's front.
-pub fn list(image: &[u8], first: u32, last: u32, buffer: &mut [u8]) -> Listed
+// The listing of first to last, both included, at the buffer's front; how many characters it has.
+pub fn list(image: &[u8], first: u32, last: u32, buffer: &mut [u8]) -> Result<usize, ListRefusal>
     ensures { (told_listed result ≡ list_answer image.now first last buffer.old)
         × (buffer.new ≡ list_buffer image.now first last buffer.old) }
 {
     if image.len() != 65536 {
-        return Listed::WrongImage;
+        return Err(ListRefusal::WrongImage);
     }
     let bad = (65535 < last) | (last < first);
     if bad {
-        return Listed::WrongRange;
+        return Err(ListRefusal::WrongRange);
     }
     let n = measure(image, first as usize, last as usize);
     if buffer.len() < n {
-        return Listed::NoRoom;
+        return Err(ListRefusal::NoRoom);
     }
     write(image, first as usize, last as usize, buffer);
-    Listed::Wrote(n)
+    Ok(n)
 }

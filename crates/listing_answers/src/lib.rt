@@ -8,16 +8,16 @@ ghost use Rattle.replies.specs.Replies.{told};
 ghost use Rattle.assembling.specs.Assembling.{told_assembled};
 ghost use Rattle.listing_answers.specs.Answers.{wrote_text, refusal_text, assembled_text};
 
-use assembling::Assembled;
+use assembling::{AssembleRefusal, Span};
 use lines::numbered;
 use printing::Line;
 
-fn wrote_line(first: u16, n: usize) -> Line
-    ensures { result ≡ puts_of empty_line (wrote_text first n) }
+fn wrote_line(span: Span) -> Line
+    ensures { result ≡ puts_of empty_line (wrote_text span.first span.bytes) }
 {
-    numbered(Line::empty(), b"assembled ", n as u64)
+    numbered(Line::empty(), b"assembled ", span.bytes as u64)
         .text(b" bytes at ")
-        .word(first)
+        .word(span.first)
         .text(b"\n")
 }
 
@@ -28,14 +28,14 @@ fn bad_line(number: u8, line: usize) -> Line
 }
 
 // The line of an answer, its end included.
-pub fn assembled_line(answer: Assembled) -> Line
+pub fn assembled_line(answer: Result<Option<Span>, AssembleRefusal>) -> Line
     ensures { result ≡ puts_of empty_line (assembled_text (told_assembled answer)) }
 {
     match answer {
-        Assembled::Wrote(first, n) => wrote_line(first, n),
-        Assembled::Empty => Line::empty().text(b"assembled 0 bytes\n"),
-        Assembled::Malformed(line) => bad_line(13, line),
-        Assembled::TooFar(line) => bad_line(14, line),
-        Assembled::NoRoom => lines::refused(23).text(b"\n"),
+        Ok(Some(span)) => wrote_line(span),
+        Ok(None) => Line::empty().text(b"assembled 0 bytes\n"),
+        Err(AssembleRefusal::Malformed(line)) => bad_line(13, line),
+        Err(AssembleRefusal::TooFar(line)) => bad_line(14, line),
+        Err(AssembleRefusal::NoRoom) => lines::refused(23).text(b"\n"),
     }
 }

@@ -1,12 +1,5 @@
 -- A number in hexadecimal.
-use Rattle.std.specs.Prelude.{ℕ, ◌+◌, ◌-◌, ◌*◌, cond, List, [], ◌∷◌, ltb, length}
-use Rattle.std.proofs.Math.Option.{Option, none, some}
-use Rattle.listing_arguments.specs.declared.Number.{Number}
-use Rattle.listing_arguments.specs.declared.Number.TheVariants.{Is, Bad}
-
-abbrev pub told_hex : Number → Option ℕ
-told_hex (Is n) = some n
-told_hex Bad = none
+use Rattle.std.specs.Prelude.{ℕ, ◌+◌, ◌-◌, ◌*◌, cond, List, [], ◌∷◌, ltb, length, Option, Some, None}
 
 -- "either case": 0 to 9 are 48 to 57, A to F 65 to 70, a to f 97 to 102; what is no digit counts 16
 unfoldable pub digit_value : ℕ → ℕ
@@ -23,11 +16,11 @@ unfoldable pub with_hex_digit : ℕ → ℕ → Option ℕ
 with_hex_digit v c =
     let d = digit_value c in
     let w = 16 * v + d in
-    cond (ltb 15 d) none (cond (ltb 4294967295 w) none (some w))
+    cond (ltb 15 d) None (cond (ltb 4294967295 w) None (Some w))
 
 abbrev pub further_hex : Option ℕ → ℕ → Option ℕ
-further_hex none c = none
-further_hex (some v) c = with_hex_digit v c
+further_hex None c = None
+further_hex (Some v) c = with_hex_digit v c
 
 -- digit after digit
 unfoldable pub hex_from : Option ℕ → List ℕ → Option ℕ
@@ -36,4 +29,4 @@ hex_from v (c ∷ text) = hex_from (further_hex v c) text
 
 -- no text is no number
 unfoldable pub hex_of : List ℕ → Option ℕ
-hex_of text = cond (ltb 0 (length text)) (hex_from (some 0) text) none
+hex_of text = cond (ltb 0 (length text)) (hex_from (Some 0) text) None

@@ -4,8 +4,8 @@
 
 ghost use Rattle.std.specs.Prelude.{◌≡◌, length};
 
-use assembling::Assembled;
-use listing::Listed;
+use assembling::{AssembleRefusal, Span};
+use listing::ListRefusal;
 use printing::Line;
 
 // The line ` touched K` where so many bytes of a buffer, from one on, are no longer EE.
@@ -53,20 +53,17 @@ fn with_address(line: Line, address: u32) -> Line {
     line.word((address / 65536) as u16).word(low)
 }
 
-fn with_listed(line: Line, listed: Listed) -> Line {
+fn with_listed(line: Line, listed: Result<usize, ListRefusal>) -> Line {
     match listed {
-        Listed::Wrote(n) => lines::numbered(line, b" wrote ", n as u64),
-        Listed::WrongImage => line.text(b" refused 1"),
-        Listed::WrongRange => line.text(b" refused 22"),
-        Listed::NoRoom => line.text(b" refused 23"),
+        Ok(n) => lines::numbered(line, b" wrote ", n as u64),
+        Err(ListRefusal::WrongImage) => line.text(b" refused 1"),
+        Err(ListRefusal::WrongRange) => line.text(b" refused 22"),
+        Err(ListRefusal::NoRoom) => line.text(b" refused 23"),
     }
 }
 
-fn characters(listed: Listed) -> usize {
-    match listed {
-        Listed::Wrote(n) => n,
-        _ => 0,
-    }
+fn characters(listed: Result<usize, ListRefusal>) -> usize {
+    listed.unwrap_or(0)
 }
 
 // A call of `list`, told on one line; how many characters it wrote.
@@ -81,21 +78,21 @@ fn call_list(rt: &impl Print, image: &[u8], first: u32, last: u32, buffer: &mut 
     n
 }
 
-fn with_assembled(line: Line, assembled: Assembled) -> Line {
+fn with_assembled(line: Line, assembled: Result<Option<Span>, AssembleRefusal>) -> Line {
     match assembled {
-        Assembled::Wrote(first, n) => lines::numbered(line, b" wrote ", n as u64)
+        Ok(Some(span)) => lines::numbered(line, b" wrote ", span.bytes as u64)
             .text(b" at ")
-            .word(first),
-        Assembled::Empty => line.text(b" empty"),
-        Assembled::Malformed(k) => lines::numbered(line, b" refused 13 line ", k as u64),
-        Assembled::TooFar(k) => lines::numbered(line, b" refused 14 line ", k as u64),
-        Assembled::NoRoom => line.text(b" refused 23"),
+            .word(span.first),
+        Ok(None) => line.text(b" empty"),
+        Err(AssembleRefusal::Malformed(k)) => lines::numbered(line, b" refused 13 line ", k as u64),
+        Err(AssembleRefusal::TooFar(k)) => lines::numbered(line, b" refused 14 line ", k as u64),
+        Err(AssembleRefusal::NoRoom) => line.text(b" refused 23"),
     }
 }
 
-fn bytes_in(assembled: Assembled) -> usize {
+fn bytes_in(assembled: Result<Option<Span>, AssembleRefusal>) -> usize {
     match assembled {
-        Assembled::Wrote(_, n) => n,
+        Ok(Some(span)) => span.bytes,
         _ => 0,
     }
 }

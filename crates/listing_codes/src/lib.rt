@@ -20,12 +20,18 @@ pub struct Piece {
     pub third: u8,
 }
 
-// A line read: not of the published form; a branch at an address whose target is out of its reach; or its bytes and how many characters it has.
+// A line read: its bytes, and how many characters it has.
 #[derive(Clone, Copy)]
-pub enum Read {
+pub struct Line {
+    pub piece: Piece,
+    pub size: u8,
+}
+
+// Why a line is not read: it is not of the published form; or it is a branch at an address whose target is out of its reach.
+#[derive(Clone, Copy)]
+pub enum Unread {
     Bad,
     Far(u16),
-    Line(Piece, u8),
 }
 
 fn form_number(form: Form) -> u8
@@ -102,66 +108,60 @@ fn code_for(keys: &[u64], name: [u8; 4], form: Form) -> usize
     op
 }
 
-fn one_byte(address: u16, op: u8, size: u8) -> Read
+fn one_byte(address: u16, op: u8, size: u8) -> Result<Line, Unread>
     ensures { result ≡ placed_at address op Place.Inherent 0 size }
 {
-    Read::Line(
-        Piece {
-            address: address,
-            length: 1,
-            first: op,
-            second: 0,
-            third: 0,
-        },
-        size,
-    )
+    let piece = Piece {
+        address,
+        length: 1,
+        first: op,
+        second: 0,
+        third: 0,
+    };
+    Ok(Line { piece, size })
 }
 
-fn two_bytes(address: u16, op: u8, v: u16, size: u8) -> Read
+fn two_bytes(address: u16, op: u8, v: u16, size: u8) -> Result<Line, Unread>
     ensures { result ≡ placed_at address op Place.Direct v size }
 {
-    Read::Line(
-        Piece {
-            address: address,
-            length: 2,
-            first: op,
-            second: lower(v),
-            third: 0,
-        },
-        size,
-    )
+    let piece = Piece {
+        address,
+        length: 2,
+        first: op,
+        second: lower(v),
+        third: 0,
+    };
+    Ok(Line { piece, size })
 }
 
-fn three_bytes(address: u16, op: u8, v: u16, size: u8) -> Read
+fn three_bytes(address: u16, op: u8, v: u16, size: u8) -> Result<Line, Unread>
     ensures { result ≡ placed_at address op Place.Extended v size }
 {
     let high = upper(v);
     let low = lower(v);
-    Read::Line(
-        Piece {
-            address: address,
-            length: 3,
-            first: op,
-            second: high,
-            third: low,
-        },
-        size,
-    )
+    let piece = Piece {
+        address,
+        length: 3,
+        first: op,
+        second: high,
+        third: low,
+    };
+    Ok(Line { piece, size })
 }
 
 // A branch over a distance, or 14.
-fn branch_to(address: u16, op: u8, distance: u16, size: u8) -> Read
+fn branch_to(address: u16, op: u8, distance: u16, size: u8) -> Result<Line, Unread>
     ensures { result ≡ branch_to address op distance size }
 {
     let far = (127 < distance) & (distance < 65408);
     if far {
-        return Read::Far(address);
+        return Err(Unread::Far(address));
     }
     two_bytes(address, op, distance, size)
 }
 
 // The bytes of an opcode with its operand.
-fn placed_at(address: u16, op: u8, place: Place, v: u16, size: u8) -> Read
+fn placed_at(address: u16, op: u8, place: Place, v: u16, size: u8) -> Result<Line, Unread>
     ensures { result ≡ placed_at address op place v size }
 {
     match place {
@@ -177,15 +177,15 @@ fn placed_at(address: u16, op: u8, place: Place, v: u16, size: u8) -> Read
     }
 }
 
-fn coded_as(address: u16, op: u8, decoded: Option<Instruction>, v: u16, size: u8) -> Read
+fn coded_as(address: u16, op: u8, decoded: Option<Instruction>, v: u16, size: u8) -> Result<Line, Unread>
     ensures { result ≡ coded_as address op decoded v size }
 {
     match decoded {
-        None => Read::Bad,
+        None => Err(Unread::Bad),
         Some(i) => {
             let place = i.place;
             if 65536 < address as u32 + i.length as u32 {
-                return Read::Bad;
+                return Err(Unread::Bad);
             }
             placed_at(address, op, place, v, size)
         }
@@ -193,7 +193,7 @@ fn coded_as(address: u16, op: u8, decoded: Option<Instruction>, v: u16, size: u8
 }
 
 // What a line of the published form comes to.
-pub fn coded(keys: &[u64], address: u16, name: [u8; 4], form: Form, v: u16, size: u8) -> Read
+pub fn coded(keys: &[u64], address: u16, name: [u8; 4], form: Form, v: u16, size: u8) -> Result<Line, Unread>
     requires { Keys keys.now }
     ensures { result ≡ coded_of address name form v size }
 {
@@ -202,7 +202,7 @@ pub fn coded(keys: &[u64], address: u16, name: [u8; 4], form: Form, v: u16, size
     }
     let op = code_for(keys, name, form);
     if 256 <= op {
-        return Read::Bad;
+        return Err(Unread::Bad);
     }
     let byte = op as u8;
     coded_as(address, byte, opcodes::decode(byte), v, size)

@@ -1,15 +1,15 @@
 -- The listing of a range with a column of what has run, and what the call `list_marked` answers and leaves for all inputs. The column is two characters
 -- before each line: `*` where an instruction began at the line's address by the map, `+` where none began there but one began at another byte of the
 -- line (a jump into an operand), a blank where nothing of the line ran; then a blank.
-use Rattle.std.specs.Prelude.{ℕ, zero, suc, ◌+◌, ◌-◌, ◌*◌, List, [], ◌∷◌, ◌++◌, cond, not, ◌&&◌, ◌||◌, ltb, eqb, length, Option}
+use Rattle.std.specs.Prelude.{ℕ, zero, suc, ◌+◌, ◌-◌, ◌*◌, List, [], ◌∷◌, ◌++◌, cond, not, ◌&&◌, ◌||◌, ltb, eqb, length, Option, Result, Ok, Err}
 use Rattle.opcodes.specs.declared.Instruction.{Instruction}
 use Rattle.asking.specs.Asking.{Given, gives, replies}
 use Rattle.execution_map.specs.Map.{has_run}
 use Rattle.map_file.specs.MapFile.{file_bytes, is_map_file}
 use Rattle.listing_lines.specs.Lines.{bytes_of, item_line}
 use Rattle.listing.specs.Listing.{image_byte, shown_at, listed_bytes, is_bad_range, listed_buffer}
-use Rattle.listing_marks.specs.declared.Marked.{Marked}
-use Rattle.listing_marks.specs.declared.Marked.TheVariants.{Wrote, WrongImage, WrongRange, WrongMap, NoRoom}
+use Rattle.listing_marks.specs.declared.MarkRefusal.{MarkRefusal}
+use Rattle.listing_marks.specs.declared.MarkRefusal.TheVariants.{WrongImage, WrongRange, WrongMap, NoRoom}
 
 -- `*` is 42, `+` 43, a blank 32: of the map's bytes, a line's address and how many bytes it has, one to three
 unfoldable pub mark_of : List ℕ → ℕ → ℕ → ℕ
@@ -35,12 +35,12 @@ unfoldable pub marked_listing : List ℕ → List ℕ → ℕ → ℕ → List �
 marked_listing map image last first = marked_from map image last (last + 1 - first) first
 
 -- how many characters were written; or 1, 22, 15, 23
-abbrev pub told_marked : Marked → Given ℕ
-told_marked (Wrote n) = gives n
-told_marked WrongImage = replies 1
-told_marked WrongRange = replies 22
-told_marked WrongMap = replies 15
-told_marked NoRoom = replies 23
+abbrev pub told_marked : Result ℕ MarkRefusal → Given ℕ
+told_marked (Ok n) = gives n
+told_marked (Err WrongImage) = replies 1
+told_marked (Err WrongRange) = replies 22
+told_marked (Err WrongMap) = replies 15
+told_marked (Err NoRoom) = replies 23
 
 -- room for 30 characters a byte is always enough, and is asked
 unfoldable pub marked_answer : List ℕ → ℕ → ℕ → List ℕ → List ℕ → Given ℕ

@@ -8,11 +8,10 @@ ghost use Rattle.listing_marks.specs.Marks.{mark_of, marked_line, marked_listing
 
 use opcodes::Instruction;
 
-// The listing was written and is so many characters long; or the image is not 65,536 bytes; or the range goes past $FFFF or backward; or the file is no
-// map and its own total; or the buffer is shorter than 30 characters a byte.
+// Why there is no listing: the image is not 65,536 bytes; or the range goes past $FFFF or backward; or the file is no map and its own total; or the
+// buffer is shorter than 30 characters a byte.
 #[derive(Clone, Copy)]
-pub enum Marked {
-    Wrote(usize),
+pub enum MarkRefusal {
     WrongImage,
     WrongRange,
     WrongMap,
@@ -82,23 +81,29 @@ fn write(map: &[u8], image: &[u8], first: usize, last: usize, buffer: &mut [u8])
     at
 }
 
-// The listing of first to last, both included, with the column of a map's file, at the buffer's front.
-pub fn list_marked(image: &[u8], first: u32, last: u32, file: &[u8], buffer: &mut [u8]) -> Marked
+// The listing of first to last, both included, with the column of a map's file, at the buffer's front; how many characters it has.
+pub fn list_marked(
+    image: &[u8],
+    first: u32,
+    last: u32,
+    file: &[u8],
+    buffer: &mut [u8],
+) -> Result<usize, MarkRefusal>
     ensures { (told_marked result ≡ marked_answer image.now first last file.now buffer.old)
         × (buffer.new ≡ marked_buffer image.now first last file.now buffer.old) }
 {
     if image.len() != 65536 {
-        return Marked::WrongImage;
+        return Err(MarkRefusal::WrongImage);
     }
     let bad = (65535 < last) | (last < first);
     if bad {
-        return Marked::WrongRange;
+        return Err(MarkRefusal::WrongRange);
     }
     if !map_file::is_map(file) {
-        return Marked::WrongMap;
+        return Err(MarkRefusal::WrongMap);
     }
     if buffer.len() < 30 * (last + 1 - first) as usize {
-        return Marked::NoRoom;
+        return Err(MarkRefusal::NoRoom);
     }
     let n = write(
         asking::filled(file, 8192),
@@ -107,5 +112,5 @@ pub fn list_marked(image: &[u8], first: u32, last: u32, file: &[u8], buffer: &mu
         last as usize,
         buffer,
     );
-    Marked::Wrote(n)
+    Ok(n)
 }

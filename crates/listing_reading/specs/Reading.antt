@@ -1,13 +1,14 @@
 -- A line of a listing read back, from the text w that begins with it. What its columns say is written anew: the line is of the published form exactly
 -- where w begins with that, columns 7 to 14 being any characters but LF.
-use Rattle.std.specs.Prelude.{ℕ, ◌+◌, ◌*◌, ◌-◌, ◌%◌, List, [], ◌∷◌, Bool, true, false, cond, not, ◌&&◌, ◌||◌, ltb, eqb, get_or, length}
+use Rattle.std.specs.Prelude.{ℕ, ◌+◌, ◌*◌, ◌-◌, ◌%◌, List, [], ◌∷◌, Bool, true, false, cond, not, ◌&&◌, ◌||◌, ltb, eqb, get_or, length, Result, Err}
 use Rattle.bits.specs.Words.{paired}
 use Rattle.listing_lines.specs.Lines.{cells_from, published_line}
 use Rattle.listing_lines.specs.declared.Form.{Form}
 use Rattle.listing_lines.specs.declared.Form.TheVariants.{Bare, HashByte, HashWord, Byte, Word, Indexed}
 use Rattle.listing_codes.specs.Codes.{coded_of}
-use Rattle.listing_codes.specs.declared.Read.{Read}
-use Rattle.listing_codes.specs.declared.Read.TheVariants.{Bad}
+use Rattle.listing_codes.specs.declared.Line.{Line}
+use Rattle.listing_codes.specs.declared.Unread.{Unread}
+use Rattle.listing_codes.specs.declared.Unread.TheVariants.{Bad}
 
 -- the character in a column, from 1; 0 past the text's end
 abbrev pub at : List ℕ → ℕ → ℕ
@@ -70,7 +71,7 @@ abbrev pub is_line : List ℕ → Bool
 is_line w = begins w (written_as w) && no_end (column_in w)
 
 -- the line's bytes and how many characters it has; 14 at its address; or 13
-unfoldable pub line_in : List ℕ → Read
+unfoldable pub line_in : List ℕ → Result Line Unread
 line_in w =
     cond (is_line w) (coded_of (address_in w) (name_in w) (form_in w) (operand_in (form_in w) w) (length (written_as w)))
-    Bad
+    (Err Bad)

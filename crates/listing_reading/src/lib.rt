@@ -6,7 +6,7 @@ ghost use Rattle.listing_codes.specs.Keys.{Keys};
 ghost use Rattle.listing_reading.specs.Reading.{at, digit_in, two_in, four_in, address_in, column_in, blank_for, name_in, form_in};
 ghost use Rattle.listing_reading.specs.Reading.{operand_in, begins, no_end, line_in};
 
-use listing_codes::Read;
+use listing_codes::{Line, Unread};
 use listing_lines::Form;
 
 // The character in a column, from 1; 0 past the end.
@@ -159,7 +159,7 @@ fn is_unbroken(column: [u8; 8]) -> bool
 }
 
 // The line that a text begins with.
-pub fn read_line(keys: &[u64], text: &[u8]) -> Read
+pub fn read_line(keys: &[u64], text: &[u8]) -> Result<Line, Unread>
     requires { Keys keys.now }
     ensures { result ≡ line_in text.now }
 {
@@ -172,10 +172,10 @@ pub fn read_line(keys: &[u64], text: &[u8]) -> Read
     let bytes = line.bytes;
     let size = line.length;
     if !begins_with(text, &bytes[..size as usize]) {
-        return Read::Bad;
+        return Err(Unread::Bad);
     }
     if !is_unbroken(column) {
-        return Read::Bad;
+        return Err(Unread::Bad);
     }
     listing_codes::coded(keys, address, name, form, v, size)
 }

@@ -1,7 +1,6 @@
 // The unrun program: MAP FIRST LAST. It prints the first address of a range at which no instruction began, `none`, or one refusal.
 #![tactic(auto)]
 
-use listing_arguments::Number;
 use std::env::Env;
 use std::fs::Files;
 
@@ -21,7 +20,7 @@ fn search_file(rt: &(impl Files + Print), name: &[u8], first: u16, last: u16) {
 }
 
 // The number that an argument of at most 16 characters is.
-fn number_at(rt: &impl Env, i: usize) -> Number {
+fn number_at(rt: &impl Env, i: usize) -> Option<u32> {
     let mut text = [0u8; 16];
     let n = host::argument(rt, i, &mut text);
     listing_arguments::hexadecimal(&text[..n])
@@ -32,11 +31,7 @@ fn main(rt: HostRuntime) {
     let n = host::argument(&rt, 1, &mut name);
     let from = number_at(&rt, 2);
     let to = number_at(&rt, 3);
-    let Number::Is(first) = from else {
-        lines::refuse(&rt, 32);
-        return;
-    };
-    let Number::Is(last) = to else {
+    let (Some(first), Some(last)) = (from, to) else {
         lines::refuse(&rt, 32);
         return;
     };

@@ -1,7 +1,7 @@
 // The line of `unrun` and the lister's column at their edges: docs/CASES.md works the expected lines. Standard input is a map's file.
 #![tactic(auto)]
 
-use listing_marks::Marked;
+use listing_marks::MarkRefusal;
 use printing::Line;
 
 fn search(rt: &impl Print, title: &[u8], file: &[u8], first: u16, last: u16) {
@@ -77,21 +77,18 @@ fn full(rt: &impl Print) {
 }
 
 // So many characters were written; or a refusal.
-fn told(line: Line, marked: Marked) -> Line {
+fn told(line: Line, marked: Result<usize, MarkRefusal>) -> Line {
     match marked {
-        Marked::Wrote(n) => lines::numbered(line, b" wrote ", n as u64),
-        Marked::WrongImage => line.text(b" refused 1"),
-        Marked::WrongRange => line.text(b" refused 22"),
-        Marked::WrongMap => line.text(b" refused 15"),
-        Marked::NoRoom => line.text(b" refused 23"),
+        Ok(n) => lines::numbered(line, b" wrote ", n as u64),
+        Err(MarkRefusal::WrongImage) => line.text(b" refused 1"),
+        Err(MarkRefusal::WrongRange) => line.text(b" refused 22"),
+        Err(MarkRefusal::WrongMap) => line.text(b" refused 15"),
+        Err(MarkRefusal::NoRoom) => line.text(b" refused 23"),
     }
 }
 
-fn characters(marked: Marked) -> usize {
-    match marked {
-        Marked::Wrote(n) => n,
-        _ => 0,
-    }
+fn characters(marked: Result<usize, MarkRefusal>) -> usize {
+    marked.unwrap_or(0)
 }
 
 fn list(rt: &impl Print, title: &[u8], image: &[u8], first: u32, last: u32, file: &[u8]) {
