@@ -1,81 +1,54 @@
--- The laws of a number in decimal, digit by digit, of comparing two texts byte by byte, and of a name with its ending. Assumes nothing.
-use Prim.Native.Nat.{ℕ, suc, ◌+◌, ◌-◌, ◌*◌, ◌≤◌, ◌<◌}
+-- The laws of a number in decimal, digit by digit, and of a name with its ending. Assumes nothing.
+use Prim.Native.Nat.{ℕ, ◌+◌, ◌-◌, ◌*◌, ◌≤◌, ◌<◌}
 use native.Mathlib.Numerals.{add-one}
 use native.Mathlib.Omega.{arith}
-use mathlib.Core.Bool.{Bool, true, false, ◌&&◌}
 use mathlib.Core.List.{List, [], ◌∷◌, ◌++◌, append_assoc}
-use mathlib.Core.Option.{none, some}
+use Rattle.std.specs.Prelude.{None, Some}
 use mathlib.Core.Path.{◌≡◌, refl, sym, ap, ◌∙◌}
-use mathlib.Core.Logic.{◌≢◌}
-use lib.Dec.{eqb}
 use lib.ListN.{length, get_or, take, drop, drop_of_length-le, length-append}
 use lib.Seq.{drop-cons, take-length, take_at, take-append_seam}
-use borrow.Author.Tests.{lt-ltb, le-ltb, eq-eqb, ne_eqb}
+use borrow.Author.Tests.{lt-ltb, le-ltb}
 use Rattle.laws.proofs.Conds.{picks, passes}
 use Rattle.io.specs.Counts.{IsPrefixLen}
-use Rattle.night_arguments.specs.Arguments.{with_digit, number_from, number_of, same_of, joined_of}
+use Rattle.night_arguments.specs.Arguments.{with_digit, number_from, number_of, joined_of}
 
 module _ (v d : ℕ) where
-  pub below : d < 48 → none ≡ with_digit v d
+  pub below : d < 48 → None ≡ with_digit v d
   unfolding with_digit
   below h = sym (picks _ _ (lt-ltb d 48 h))
 
-  pub above : 48 ≤ d → 57 < d → none ≡ with_digit v d
+  pub above : 48 ≤ d → 57 < d → None ≡ with_digit v d
   unfolding with_digit
   above l h = sym (passes _ _ (le-ltb d 48 l) ∙ picks _ _ (lt-ltb 57 d h))
 
-  pub too_large : 48 ≤ d → d ≤ 57 → 4294967295 < 10 * v + (d - 48) → none ≡ with_digit v d
+  pub too_large : 48 ≤ d → d ≤ 57 → 4294967295 < 10 * v + (d - 48) → None ≡ with_digit v d
   unfolding with_digit
   too_large l m h = sym (passes _ _ (le-ltb d 48 l) ∙ passes _ _ (le-ltb 57 d m) ∙ picks _ _ (lt-ltb _ _ h))
 
-  pub one_more : 48 ≤ d → d ≤ 57 → 10 * v + (d - 48) ≤ 4294967295 → some (10 * v + (d - 48)) ≡ with_digit v d
+  pub one_more : 48 ≤ d → d ≤ 57 → 10 * v + (d - 48) ≤ 4294967295 → Some (10 * v + (d - 48)) ≡ with_digit v d
   unfolding with_digit
   one_more l m h = sym (passes _ _ (le-ltb d 48 l) ∙ passes _ _ (le-ltb 57 d m) ∙ passes _ _ (le-ltb _ _ h))
 
-pub from_none : (l : List ℕ) → number_from none l ≡ none
+pub from_none : (l : List ℕ) → number_from None l ≡ None
 unfolding number_from
 from_none [] = refl
 from_none (d ∷ l) = from_none l
 
-pub from_step : (l : List ℕ) (i v : ℕ) → i < length l → number_from (some v) (drop i l) ≡ number_from (with_digit v (get_or l i 0)) (drop (i + 1) l)
+pub from_step : (l : List ℕ) (i v : ℕ) → i < length l → number_from (Some v) (drop i l) ≡ number_from (with_digit v (get_or l i 0)) (drop (i + 1) l)
 unfolding number_from
 from_step l i v h = rw (add-one, drop-cons l i 0)
 
-pub from_end : (l : List ℕ) (i v : ℕ) → length l ≤ i → number_from (some v) (drop i l) ≡ some v
+pub from_end : (l : List ℕ) (i v : ℕ) → length l ≤ i → number_from (Some v) (drop i l) ≡ Some v
 unfolding number_from
-from_end l i v h = ap (number_from (some v)) (drop_of_length-le l h)
+from_end l i v h = ap (number_from (Some v)) (drop_of_length-le l h)
 
-pub no_text : (l : List ℕ) → length l ≡ 0 → none ≡ number_of l
+pub no_text : (l : List ℕ) → length l ≡ 0 → None ≡ number_of l
 unfolding number_of
 no_text l h = sym (passes _ _ (le-ltb 0 (length l) (omega arith)))
 
-pub some_text : (l : List ℕ) → 0 < length l → number_of l ≡ number_from (some 0) l
+pub some_text : (l : List ℕ) → 0 < length l → number_of l ≡ number_from (Some 0) l
 unfolding number_of
 some_text l h = picks _ _ (lt-ltb 0 (length l) h)
-
-pub same_length : (a b : List ℕ) → length a ≢ length b → same_of a b ≡ false
-unfolding same_of
-same_length [] [] n = absurd (n refl)
-same_length [] (y ∷ ys) n = refl
-same_length (x ∷ xs) [] n = refl
-same_length (x ∷ xs) (y ∷ ys) n = go (eqb x y) (same_length xs ys (λ e. n (ap suc e)))
-  where
-    go : (t : Bool) → same_of xs ys ≡ false → (t && same_of xs ys) ≡ false
-    go true e = e
-    go false e = refl
-
-module _ (a b : List ℕ) (i : ℕ) (h : i < length a) (k : i < length b) where
-  pub same_next : get_or a i 0 ≡ get_or b i 0 → same_of (drop i a) (drop i b) ≡ same_of (drop (i + 1) a) (drop (i + 1) b)
-  unfolding same_of
-  same_next e = rw (add-one, drop-cons a i 0 h, drop-cons b i 0 k, eq-eqb _ _ e)
-
-  pub same_differ : get_or a i 0 ≢ get_or b i 0 → same_of (drop i a) (drop i b) ≡ false
-  unfolding same_of
-  same_differ n = rw (drop-cons a i 0 h, drop-cons b i 0 k, ne_eqb _ _ n)
-
-pub same_end : (a b : List ℕ) (i : ℕ) → length a ≤ i → length b ≤ i → same_of (drop i a) (drop i b) ≡ true
-unfolding same_of
-same_end a b i h k = rw (drop_of_length-le a h, drop_of_length-le b k)
 
 module _ (name ending : List ℕ) where
   pub no_room : (room : ℕ) → room < length name + length ending → [] ≡ joined_of name ending room

@@ -1,46 +1,45 @@
 -- Options and calls, worked out by computing. Assumes nothing.
 use Prim.Native.Nat.{ℕ}
-use mathlib.Core.List.{List, [], ◌∷◌, map}
+use mathlib.Core.List.{[], ◌∷◌, map}
 use mathlib.Core.Path.{◌≡◌, refl}
+use Rattle.std.specs.Prelude.{Option, Some, None}
 use Rattle.printing.specs.Printing.{ascii}
-use Rattle.night_arguments.specs.Arguments.{same_of}
-use Rattle.night_arguments.specs.Options.{Call, kind_of, told, call_from, call_of}
+use Rattle.night_arguments.specs.declared.Kind.TheVariants.{Name, End, Unknown, Area, Log}
+use Rattle.night_arguments.specs.declared.Call.{Call}
+use Rattle.night_arguments.specs.Options.{kind_of, call_from, call_of}
 
 pub kinds : map kind_of (
     ascii "--area" ∷ ascii "--log" ∷ ascii "--" ∷ ascii "--lo" ∷ ascii "--logs" ∷ ascii "-log" ∷ ascii "-" ∷ [] ∷ ascii "log" ∷ []
-    ) ≡ 3 ∷ 4 ∷ 1 ∷ 2 ∷ 2 ∷ 0 ∷ 0 ∷ 0 ∷ 0 ∷ []
-unfolding kind_of same_of
+    ) ≡ Area ∷ Log ∷ End ∷ Unknown ∷ Unknown ∷ Name ∷ Name ∷ Name ∷ Name ∷ []
+unfolding kind_of
 kinds = refl
 
-abbrev call : List ℕ → Call
-call kinds = call_of kinds (0 ∷ 0 ∷ [])
+abbrev call : ℕ → Option ℕ → Option ℕ → Option Call
+call names area log = Some (record { names = names; options = record { area = area; log = log } })
 
-pub calls : map call (
-    (0 ∷ 0 ∷ 0 ∷ 0 ∷ 0 ∷ 0 ∷ [])  -- six names
-    ∷ (4 ∷ 0 ∷ 0 ∷ 0 ∷ 0 ∷ 0 ∷ 0 ∷ 0 ∷ [])  -- a log
-    ∷ (4 ∷ 4 ∷ 0 ∷ 0 ∷ 0 ∷ 0 ∷ 0 ∷ 0 ∷ [])  -- a log whose name is --log
-    ∷ (3 ∷ 0 ∷ 4 ∷ 0 ∷ 0 ∷ 0 ∷ 0 ∷ 0 ∷ 0 ∷ 0 ∷ [])  -- an area and a log
-    ∷ (4 ∷ 0 ∷ 3 ∷ 0 ∷ 0 ∷ 0 ∷ 0 ∷ 0 ∷ 0 ∷ 0 ∷ [])  -- a log and an area
-    ∷ (1 ∷ 0 ∷ 0 ∷ 0 ∷ 0 ∷ 0 ∷ 0 ∷ [])  -- the options' end
-    ∷ (4 ∷ 0 ∷ 1 ∷ 3 ∷ 2 ∷ 0 ∷ 0 ∷ 1 ∷ 0 ∷ [])  -- after it, names like options
+pub calls : map call_of (
+    (Name ∷ Name ∷ Name ∷ Name ∷ Name ∷ Name ∷ [])  -- six names
+    ∷ (Log ∷ Name ∷ Name ∷ Name ∷ Name ∷ Name ∷ Name ∷ Name ∷ [])  -- a log
+    ∷ (Log ∷ Log ∷ Name ∷ Name ∷ Name ∷ Name ∷ Name ∷ Name ∷ [])  -- a log whose name is --log
+    ∷ (Area ∷ Name ∷ Log ∷ Name ∷ Name ∷ Name ∷ Name ∷ Name ∷ Name ∷ Name ∷ [])  -- an area and a log
+    ∷ (Log ∷ Name ∷ Area ∷ Name ∷ Name ∷ Name ∷ Name ∷ Name ∷ Name ∷ Name ∷ [])  -- a log and an area
+    ∷ (End ∷ Name ∷ Name ∷ Name ∷ Name ∷ Name ∷ Name ∷ [])  -- the options' end
+    ∷ (Log ∷ Name ∷ End ∷ Area ∷ Unknown ∷ Name ∷ Name ∷ End ∷ Name ∷ [])  -- after it, names like options
     ∷ []
-    ) ≡ told 1 (0 ∷ 0 ∷ []) ∷ told 3 (0 ∷ 2 ∷ []) ∷ told 3 (0 ∷ 2 ∷ []) ∷ told 5 (2 ∷ 4 ∷ []) ∷ told 5 (4 ∷ 2 ∷ []) ∷ told 2 (0 ∷ 0 ∷ []) ∷ told 4 (0 ∷ 2 ∷ []) ∷ []
+    ) ≡ call 1 None None ∷ call 3 None (Some 2) ∷ call 3 None (Some 2) ∷ call 5 (Some 2) (Some 4) ∷ call 5 (Some 4) (Some 2) ∷ call 2 None None
+    ∷ call 4 None (Some 2) ∷ []
 unfolding call_of call_from
 calls = refl
 
-abbrev names : List ℕ → ℕ
-names kinds = (call kinds).names
-
-pub no_calls : map names (
+pub no_calls : map call_of (
     []
-    ∷ (0 ∷ 0 ∷ 0 ∷ 0 ∷ 0 ∷ [])  -- five names
-    ∷ (0 ∷ 0 ∷ 0 ∷ 0 ∷ 0 ∷ 0 ∷ 0 ∷ [])  -- seven
-    ∷ (4 ∷ 0 ∷ 0 ∷ 0 ∷ 0 ∷ 0 ∷ 0 ∷ [])  -- the log's name is missing
-    ∷ (4 ∷ 0 ∷ 4 ∷ 0 ∷ 0 ∷ 0 ∷ 0 ∷ 0 ∷ 0 ∷ 0 ∷ [])  -- a log twice
-    ∷ (3 ∷ 0 ∷ 4 ∷ 0 ∷ 3 ∷ 0 ∷ 0 ∷ 0 ∷ 0 ∷ 0 ∷ 0 ∷ 0 ∷ [])  -- an area twice
-    ∷ (2 ∷ 0 ∷ 0 ∷ 0 ∷ 0 ∷ 0 ∷ 0 ∷ 0 ∷ [])  -- an unknown option
-    ∷ (5 ∷ 0 ∷ 0 ∷ 0 ∷ 0 ∷ 0 ∷ 0 ∷ 0 ∷ [])  -- one that has no row
+    ∷ (Name ∷ Name ∷ Name ∷ Name ∷ Name ∷ [])  -- five names
+    ∷ (Name ∷ Name ∷ Name ∷ Name ∷ Name ∷ Name ∷ Name ∷ [])  -- seven
+    ∷ (Log ∷ Name ∷ Name ∷ Name ∷ Name ∷ Name ∷ Name ∷ [])  -- the log's name is missing
+    ∷ (Log ∷ Name ∷ Log ∷ Name ∷ Name ∷ Name ∷ Name ∷ Name ∷ Name ∷ Name ∷ [])  -- a log twice
+    ∷ (Area ∷ Name ∷ Log ∷ Name ∷ Area ∷ Name ∷ Name ∷ Name ∷ Name ∷ Name ∷ Name ∷ Name ∷ [])  -- an area twice
+    ∷ (Unknown ∷ Name ∷ Name ∷ Name ∷ Name ∷ Name ∷ Name ∷ Name ∷ [])  -- an unknown option
     ∷ []
-    ) ≡ 0 ∷ 0 ∷ 0 ∷ 0 ∷ 0 ∷ 0 ∷ 0 ∷ 0 ∷ []
+    ) ≡ None ∷ None ∷ None ∷ None ∷ None ∷ None ∷ None ∷ []
 unfolding call_of call_from
 no_calls = refl

@@ -6,27 +6,19 @@ ghost use Rattle.printing.specs.Printing.{empty_line, put_of, puts_of, decimal_o
 
 use characters::digit;
 
-// The first `length` bytes are the text; the 256th begins it anew.
+// The first `length` bytes are the text; the 256th begins it anew (`put_of`), which no list of fixed room does: so the bytes keep their length beside them.
 #[derive(Clone, Copy)]
 pub struct Line {
     pub bytes: [u8; 256],
     pub length: u8,
 }
 
-fn write_first(rt: &impl Print, bytes: &[u8; 256], k: usize)
-    requires { k < 256 }
-{
-    let whole: &[u8] = bytes;
-    host::show(rt, &whole[..k]);
-}
-
 impl Line {
     pub fn empty() -> Line
         ensures { result ≡ empty_line }
     {
-        let bytes = [0u8; 256];
         Line {
-            bytes: bytes,
+            bytes: [0; 256],
             length: 0,
         }
     }
@@ -44,10 +36,8 @@ impl Line {
         ensures { result ≡ puts_of self text.now }
     {
         let mut line = self;
-        let mut i = 0;
-        while i < text.len() {
-            line = line.put(text[i]);
-            i = i + 1;
+        for byte in text {
+            line = line.put(*byte);
         }
         line
     }
@@ -73,9 +63,9 @@ impl Line {
     {
         self.byte((v / 256) as u8).byte((v % 256) as u8)
     }
+
     // Written to standard output.
     pub fn print(self, rt: &impl Print) {
-        let bytes = self.bytes;
-        write_first(rt, &bytes, self.length as usize);
+        host::show(rt, &self.bytes[..self.length as usize]);
     }
 }

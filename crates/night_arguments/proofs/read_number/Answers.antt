@@ -1,35 +1,30 @@
 -- `night_arguments::read_number` meets its contract: each turn reads one digit more. Assumes nothing.
 use Prim.Native.Nat.{ℕ, ◌+◌}
-use native.Mathlib.Omega.{arith}
-use mathlib.Core.Option.{Option}
 use mathlib.Core.Path.{sym, ap, ◌∙◌}
 use lib.ListN.{drop}
-use Rattle.night_arguments.specs.Arguments.{told_number, number_from}
-use Rattle.night_arguments.proofs.Laws.{from_none, from_step, from_end, no_text, some_text}
+use Rattle.std.specs.Prelude.{Option}
+use Rattle.night_arguments.specs.Arguments.{number_from}
+use Rattle.night_arguments.proofs.Laws.{from_none, from_step, from_end, some_text}
 use Rattle.night_arguments.proofs.read_number.Goals as goal
+use native.Mathlib.Omega.{arith}
 
-pub returns-then-text-eq0 : goal.returns-then-text-eq0
-returns-then-text-eq0 c = no_text c.args.text.now c.if-text-eq0.true
+pub loop-digit-init : goal.loop-digit-init
+loop-digit-init c = some_text c.args.text.now (let h = c.if-text-eq0.false in omega arith)
 
-pub loop-i-init : goal.loop-i-init
-loop-i-init c = (omega arith, some_text c.args.text.now (let h = c.if-text-eq0.false in omega arith))
-
-pub returns-in-No : goal.returns-in-No
-returns-in-No c =
+pub returns-in_err-v : goal.returns-in_err-v
+returns-in_err-v c =
     let t = c.args.text.now in
-    let l = c.loop-i in
-    sym (l.invariant.1 ∙ from_step t l.i l.v c.loop-i-test.true
-    ∙ ap (λ (x : Option ℕ). number_from x (drop (l.i + 1) t)) (sym c.with_digit-next.ensures ∙ ap told_number c.in-No.is)
-    ∙ from_none (drop (l.i + 1) t))
+    let l = c.loop-digit in
+    c.from_residual.ensures ∙ sym (l.invariant ∙ from_step t l.digit-index l.v c.loop-digit-test.true
+    ∙ ap (λ (x : Option ℕ). number_from x (drop (l.digit-index + 1) t)) (sym c.with_digit.ensures ∙ c.in_err-v.was)
+    ∙ from_none (drop (l.digit-index + 1) t))
 
-pub loop-i-preserved : goal.loop-i-preserved
-loop-i-preserved c =
+pub loop-digit-preserved : goal.loop-digit-preserved
+loop-digit-preserved c =
     let t = c.args.text.now in
-    let l = c.loop-i in (
-      omega arith,
-      l.invariant.1 ∙ from_step t l.i l.v c.loop-i-test.true
-          ∙ ap (λ (x : Option ℕ). number_from x (drop (l.i + 1) t)) (sym c.with_digit-next.ensures ∙ ap told_number c.in-Is.is),
-    )
+    let l = c.loop-digit in
+    l.invariant ∙ from_step t l.digit-index l.v c.loop-digit-test.true
+    ∙ ap (λ (x : Option ℕ). number_from x (drop (l.digit-index + 1) t)) (sym c.with_digit.ensures ∙ c.in_ok-v.was)
 
 pub returns : goal.returns
-returns c = sym (c.loop-i.invariant.1 ∙ from_end c.args.text.now c.loop-i.i c.loop-i.v c.loop-i-test.false)
+returns c = sym (c.loop-digit.invariant ∙ from_end c.args.text.now c.loop-digit.digit-index c.loop-digit.v c.loop-digit-test.false)

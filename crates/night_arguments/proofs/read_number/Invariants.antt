@@ -1,13 +1,9 @@
 -- `night_arguments::read_number` meets its contract: each turn reads one digit more. Assumes nothing.
-use Prim.Native.Nat.{◌-◌, ◌≤◌}
-use mathlib.Core.Option.{some}
 use mathlib.Core.Path.{◌≡◌}
-use lib.ListN.{length, drop}
+use lib.ListN.{drop}
+use Rattle.std.specs.Prelude.{Some}
 use Rattle.night_arguments.specs.Arguments.{number_from, number_of}
 use Rattle.night_arguments.proofs.read_number.Given as goal
 
-abbrev pub invariant-loop-i : goal.invariant-loop-i
-invariant-loop-i l = (l.i ≤ length l.text) × (number_of l.text ≡ number_from (some l.v) (drop l.i l.text))
-
-abbrev pub decreases-loop-i : goal.decreases-loop-i
-decreases-loop-i l = length l.text - l.i
+abbrev pub invariant-loop-digit : goal.invariant-loop-digit
+invariant-loop-digit l = number_of l.text ≡ number_from (Some l.v) (drop l.digit-index l.text)
