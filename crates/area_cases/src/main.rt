@@ -5,7 +5,7 @@ use bits::Flag;
 use boundary::Watch;
 use cabinet::{Leapt, Ran};
 use counts::Cycles;
-use machine::{Machine, Power};
+use machine::Machine;
 
 // What a case changes of the machine after power-on: SP, bits 6 and 7 of $14, R, I, waiting, a pending NMI, and whether a byte is to be sent when
 // ten cycles have passed.
@@ -261,7 +261,7 @@ fn lend(rt: &impl Print, leaping: bool, code: &[u8], session: &[u8], m: Machine,
 
 fn both(rt: &impl Print, title: &[u8], code: &[u8], session: &[u8], s: Start, l: Lends) {
     let image = rom(code);
-    let Power::On(m) = cabinet::power_on(&image, 65536) else {
+    let Ok(m) = cabinet::power_on(&image, 65536) else {
         return;
     };
     let start = started(m, s);

@@ -1,5 +1,6 @@
 -- The bench program's line: it has at most 201 bytes, so that it is shown whole, and it is `refused 10` exactly where the input is
 -- bad. Assumes nothing.
+use Rattle.std.specs.Prelude.{Result, Ok, Err}
 use Prim.Native.Nat.{ℕ, ◌≤◌}
 use native.Mathlib.Omega.{arith}
 use mathlib.Core.Path.{◌≡◌, refl, sym, ap, ◌∙◌}
@@ -12,8 +13,8 @@ use Rattle.asking.specs.Asking.{Given, gives, replies}
 use Rattle.power.specs.Power.{told_power}
 use Rattle.replies.specs.Replies.{stops}
 use Rattle.machine.specs.declared.Machine.{Machine}
-use Rattle.machine.specs.declared.Power.{Power}
-use Rattle.machine.specs.declared.Power.TheVariants as power
+use Rattle.machine.specs.declared.PowerRefusal.{PowerRefusal}
+use Rattle.machine.specs.declared.PowerRefusal.TheVariants.{WrongImage, WrongStart}
 use Rattle.machine.specs.Machine.{power_on_of}
 use Rattle.boundary.specs.World.{lent, terms}
 use Rattle.cabinet.specs.Answers.{Answer, answer_of}
@@ -95,11 +96,11 @@ text_other a h = by (stops a.reply.number) refl
     by true s e = stop_other a e
     by false s e = refused_other a.reply.number a.reply.named (let k = h s in omega arith) e
 
-power_other : (image session : List ℕ) (n : ℕ) (p : Power) → IsTen (powered_text image session n (told_power p)) → ⊥
+power_other : (image session : List ℕ) (n : ℕ) (p : Result Machine PowerRefusal) → IsTen (powered_text image session n (told_power p)) → ⊥
 unfolding powered_text
-power_other image session n power.WrongImage e = refused_other 1 none (omega arith) e
-power_other image session n power.WrongStart e = refused_other 2 none (omega arith) e
-power_other image session n (power.On m) e =
+power_other image session n (Err WrongImage) e = refused_other 1 none (omega arith) e
+power_other image session n (Err WrongStart) e = refused_other 2 none (omega arith) e
+power_other image session n (Ok m) e =
     let given = lent image (replicate 128 0) (replicate 256 0) in
     text_other (answer_of (terms session n) m given) (refusal_most (terms session n) m given (length-replicate {A = ℕ} 128 0)) e
 

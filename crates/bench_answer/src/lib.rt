@@ -9,7 +9,7 @@ ghost use Rattle.bench_answer.specs.Answer.{nothing, stop_text, text_of, powered
 
 use bench_input::Input;
 use cabinet::Ran;
-use machine::Power;
+use machine::PowerRefusal;
 use printing::Line;
 
 fn stopped(ran: Ran) -> Line
@@ -44,9 +44,9 @@ fn powered(session: &[u8], n: u32, r: u32, image: &mut [u8]) -> Line
 {
     let power = cabinet::power_on(&image[..], r);
     match power {
-        Power::WrongImage => lines::refused(1),
-        Power::WrongStart => lines::refused(2),
-        Power::On(m) => {
+        Err(PowerRefusal::WrongImage) => lines::refused(1),
+        Err(PowerRefusal::WrongStart) => lines::refused(2),
+        Ok(m) => {
             let mut area = [0u8; 128];
             let mut output = [0u8; 256];
             let leapt = cabinet::run_leaping(image, &mut area, m, session, n, &mut output);

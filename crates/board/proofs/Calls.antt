@@ -1,4 +1,5 @@
 -- The ways that a C run can end, plain or watched, as laws over plain variables. Assumes nothing.
+use Rattle.std.specs.Prelude.{Result}
 use Prim.Native.Nat.{ℕ, ◌≤◌, ◌<◌}
 use mathlib.Core.Bool.{Bool, true, false}
 use mathlib.Core.List.{List}
@@ -16,7 +17,7 @@ use Rattle.boundary.specs.declared.Watch.{Watch}
 use Rattle.boundary.specs.World.{Lent, lent, lending, Terms, terms, watching, unwatched}
 use Rattle.cabinet.specs.declared.Leapt.{Leapt}
 use Rattle.cabinet.specs.Answers.{Answer, answered, answer_of, leaps_of}
-use Rattle.saved.specs.declared.Loaded.{Loaded}
+use Rattle.saved.specs.declared.LoadRefusal.{LoadRefusal}
 use Rattle.saved.specs.Layout.{saved_of}
 use Rattle.asking.specs.Asking.{gives}
 use Rattle.saved.specs.Answers.{left_of, told_loaded, load_of}
@@ -32,8 +33,8 @@ module _ (leaping : Bool) (t : Terms) (b : Buffers) where
   run_short e h = sym (picks _ _ (ap (ltb (length b.result)) (sym e) ∙ lt-ltb _ _ h))
 
   -- what loading answers decides
-  pub on_loaded : {size : ℕ} → size ≡ record_size leaping → size ≤ length b.result → {a : Loaded} → told_loaded a ≡ load_of b.machine
-      → (l : Loaded) → a ≡ l → on_load leaping t b (told_loaded l) ≡ run_call leaping t b
+  pub on_loaded : {size : ℕ} → size ≡ record_size leaping → size ≤ length b.result → {a : Result Machine LoadRefusal} → told_loaded a ≡ load_of b.machine
+      → (l : Result Machine LoadRefusal) → a ≡ l → on_load leaping t b (told_loaded l) ≡ run_call leaping t b
   unfolding run_call
   on_loaded s h e l f =
       sym (passes _ _ (ap (ltb (length b.result)) (sym s) ∙ le-ltb _ _ h) ∙ ap (on_load leaping t b) (sym e ∙ ap told_loaded f))

@@ -14,7 +14,7 @@ use board_results::Counted;
 use boundary::Watch;
 use cabinet::Ran;
 use counts::{Cycles, Records};
-use saved::Loaded;
+use saved::LoadRefusal;
 
 // Power-on into a saved machine.
 pub fn pliruzza_power_on(image: &[u8], r: u32, machine: &mut [u8]) -> u32
@@ -102,7 +102,7 @@ fn run_call(
     }
     let loaded = saved::load(&machine[..]);
     match loaded {
-        Loaded::Ready(m) => {
+        Ok(m) => {
             let e = cabinet::watch_either(leaping, image, area, m, session, n, watch, output, log);
             let ran = e.ran;
             let reply = ran.reply;
@@ -112,10 +112,10 @@ fn run_call(
             let counted = counted(ran);
             board_results::report(leaping, reply, counted, leaps, res)
         }
-        Loaded::WrongLength => 26,
-        Loaded::WrongVersion => 27,
-        Loaded::NoMachine => 28,
-        Loaded::WrongMachine => {
+        Err(LoadRefusal::WrongLength) => 26,
+        Err(LoadRefusal::WrongVersion) => 27,
+        Err(LoadRefusal::NoMachine) => 28,
+        Err(LoadRefusal::WrongMachine) => {
             let number = board_results::unfit(&image[..], &area[..]);
             board_results::refuse(leaping, number, res);
             number

@@ -1,4 +1,5 @@
 -- The ways that each C call can end, as laws over plain variables. Assumes nothing.
+use Rattle.std.specs.Prelude.{Result, Option, Some}
 use Prim.Native.Nat.{ℕ, ◌≤◌, ◌<◌}
 use native.Mathlib.Omega.{arith}
 use mathlib.Core.List.{List, ◌++◌}
@@ -14,9 +15,8 @@ use Rattle.session.specs.Session.{fault_number}
 use Rattle.replies.specs.declared.Reply.{Reply}
 use Rattle.replies.specs.Replies.{Told, told_reply, told_fault}
 use Rattle.opcodes.specs.declared.Instruction.{Instruction}
-use Rattle.std.specs.Prelude.{Option, Some}
 use Rattle.machine.specs.declared.Machine.{Machine}
-use Rattle.machine.specs.declared.Power.{Power}
+use Rattle.machine.specs.declared.PowerRefusal.{PowerRefusal}
 use Rattle.asking.specs.Asking.{told_decoded, opcode_answer}
 use Rattle.power.specs.Power.{told_power, power_answer}
 use Rattle.saved.specs.Layout.{saved_of}
@@ -35,7 +35,7 @@ module _ (image : List ℕ) (r : ℕ) (machine : List ℕ) where
   unfolding power_call
   power_short h = sym (passes _ _ (ne_eqb _ _ h))
 
-  pub powered : {p : Power} (q : Power) → length machine ≡ 42 → told_power p ≡ power_answer image r → p ≡ q
+  pub powered : {p : Result Machine PowerRefusal} (q : Result Machine PowerRefusal) → length machine ≡ 42 → told_power p ≡ power_answer image r → p ≡ q
       → on_power machine (told_power q) ≡ power_call image r machine
   unfolding power_call
   powered q h e f = sym (picks _ _ (eq-eqb _ _ h) ∙ ap (on_power machine) (sym e ∙ ap told_power f))

@@ -7,7 +7,7 @@ ghost use Rattle.board_results.specs.Returned.{returned};
 ghost use Rattle.board_calls.specs.Calls.{wrote, power_call, ask_call, rest_call};
 
 use counts::{Cycles, Records};
-use machine::Power;
+use machine::PowerRefusal;
 use opcodes::Instruction;
 use rest::Rested;
 
@@ -20,12 +20,12 @@ pub fn power_on(image: &[u8], r: u32, machine: &mut [u8]) -> u32
     }
     let power = power::power_on(image, r);
     match power {
-        Power::On(m) => {
+        Ok(m) => {
             saved::save(m, machine);
             0
         }
-        Power::WrongImage => 1,
-        Power::WrongStart => 2,
+        Err(PowerRefusal::WrongImage) => 1,
+        Err(PowerRefusal::WrongStart) => 2,
     }
 }
 

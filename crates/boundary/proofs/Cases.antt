@@ -1,4 +1,5 @@
 -- The ways that a boundary can go, each as a law, in the code's order. Assumes nothing.
+use Rattle.std.specs.Prelude.{Option, None, Some}
 use Rattle.std.proofs.Common.{◌≡◌, ℕ, ◌<◌, ◌≤◌, Bool, true, false, cond, not, ◌&&◌, List, length, sym, refl, ap, ◌∙◌, subst, ⊎_elim, true≢false, arith, le-leb}
 use mathlib.Core.Bool.{false≢true}
 use borrow.Author.Tests.{lt-leb, not-false}
@@ -10,10 +11,6 @@ use Rattle.session.proofs.Laws.{next_after}
 use Rattle.machine.specs.declared.Machine.{Machine}
 use Rattle.machine.specs.declared.Moved.{Moved}
 use Rattle.machine.specs.declared.Cause.{Cause}
-use Rattle.machine.specs.declared.Look.{Look}
-use Rattle.machine.specs.declared.Look.TheVariants as looks
-use Rattle.machine.specs.declared.Pending.{Pending}
-use Rattle.machine.specs.declared.Pending.TheVariants.{Nothing, Due}
 use Rattle.machine.specs.Machine.{passed_of}
 use Rattle.machine.specs.Interrupts.{pending_of}
 use Rattle.machine.specs.Steps.{Stepped, moved, entered_of, look_of, step_of}
@@ -50,7 +47,7 @@ module _ (s : State) (memory : Memories) {e : Moved} {j : Memories} where
       → Fits s (grown e.cycles.0 i n 0)
   entry_fits cause i n q h = few_fit h (rw (ap (λ (z : Stepped). z.cycles) q) (entry_most cause memory s.machine))
 
-  pub step_fits : (k : Instruction) (i n : ℕ) → look_of memory s.machine ≡ looks.Runs k → moved e j ≡ step_of k memory s.machine → Ready s
+  pub step_fits : (k : Instruction) (i n : ℕ) → look_of memory s.machine ≡ Some k → moved e j ≡ step_of k memory s.machine → Ready s
       → i ≤ 1 → n ≤ 1 → Fits s (grown e.cycles.0 i n 0)
   step_fits k i n l q h = few_fit h (rw (ap (λ (z : Stepped). z.cycles) q) (step_cycles memory s.machine k l).1)
 
@@ -65,17 +62,17 @@ module _ (s : State) (l : Lent) where
       ∙ ap (λ (z : Stepped). world_of (grown_to s z.machine (grown z.cycles 0 1 0) false) (with_memories l z.memory)) q
 
   -- step 6, by what the machine's look and step give
-  pub step_stops : look_of (memories_in l) s.machine ≡ looks.Undefined
+  pub step_stops : look_of (memories_in l) s.machine ≡ None
       → done (ended_of stops.Undefined (world_of s l)) ≡ executed_of (look_of (memories_in l) s.machine) (world_of s l)
-  step_stops e = ap (λ (k : Look). executed_of k (world_of s l)) (sym e)
+  step_stops e = ap (λ (k : Option Instruction). executed_of k (world_of s l)) (sym e)
 
-  pub step_goes : (i : Instruction) {r : State} {e : Moved} {j : Memories} → look_of (memories_in l) s.machine ≡ looks.Runs i
+  pub step_goes : (i : Instruction) {r : State} {e : Moved} {j : Memories} → look_of (memories_in l) s.machine ≡ Some i
       → moved e j ≡ step_of i (memories_in l) s.machine → r ≡ grown_to s e.machine (grown e.cycles.0 1 0 0) false
       → more (world_of r (with_memories l j)) ≡ executed_of (look_of (memories_in l) s.machine) (world_of s l)
   step_goes i {j} h q p =
       ap (λ (x : State). more (world_of x (with_memories l j))) p
       ∙ ap (λ (z : Stepped). more (stepped_world z (world_of s l))) q
-      ∙ ap (λ (k : Look). executed_of k (world_of s l)) (sym h)
+      ∙ ap (λ (k : Option Instruction). executed_of k (world_of s l)) (sym h)
 
   module _ (watch : Watch) where
     -- a row that is asked for, and fits
@@ -93,27 +90,27 @@ module _ (s : State) (l : Lent) where
 
     -- step 4, by whether a row is asked for and lacks
     module _ (cause : Cause) where
-      pub accept_stops : lacks_row watch s l.log ≡ true → on_pending watch (Due cause) (world_of s l) ≡ done (ended_of stops.LogFull (world_of s l))
+      pub accept_stops : lacks_row watch s l.log ≡ true → on_pending watch (Some cause) (world_of s l) ≡ done (ended_of stops.LogFull (world_of s l))
       accept_stops e = picks _ _ e
 
       pub accept_goes : lacks_row watch s l.log ≡ false
-          → on_pending watch (Due cause) (world_of s l) ≡ more (entered_world cause (logged_world watch cause (world_of s l)))
+          → on_pending watch (Some cause) (world_of s l) ≡ more (entered_world cause (logged_world watch cause (world_of s l)))
       accept_goes e = passes _ _ e
 
     -- steps 4 to 6
-    pub act_accepts : {cause : Cause} → pending_of s.machine ≡ Due cause → act_of watch (world_of s l) ≡ on_pending watch (Due cause) (world_of s l)
+    pub act_accepts : {cause : Cause} → pending_of s.machine ≡ Some cause → act_of watch (world_of s l) ≡ on_pending watch (Some cause) (world_of s l)
     unfolding act_of
-    act_accepts e = ap (λ (p : Pending). on_pending watch p (world_of s l)) e
+    act_accepts e = ap (λ (p : Option Cause). on_pending watch p (world_of s l)) e
 
-    module _ (e : pending_of s.machine ≡ Nothing) where
+    module _ (e : pending_of s.machine ≡ None) where
       pub act_waits : idles s.machine.chip.registers ≡ true → act_of watch (world_of s l) ≡ more (waited_world (world_of s l))
       unfolding act_of
-      act_waits w = ap (λ (p : Pending). on_pending watch p (world_of s l)) e ∙ picks _ _ w
+      act_waits w = ap (λ (p : Option Cause). on_pending watch p (world_of s l)) e ∙ picks _ _ w
 
       pub act_steps : idles s.machine.chip.registers ≡ false
           → act_of watch (world_of s l) ≡ executed_of (look_of (memories_in l) s.machine) (world_of s l)
       unfolding act_of
-      act_steps w = ap (λ (p : Pending). on_pending watch p (world_of s l)) e ∙ passes _ _ w
+      act_steps w = ap (λ (p : Option Cause). on_pending watch p (world_of s l)) e ∙ passes _ _ w
 
     -- step 3
     pub send_full : sends_of s ≡ true → length l.output ≤ s.sent.0 → send_of watch (world_of s l) ≡ done (ended_of stops.Full (world_of s l))
@@ -148,10 +145,10 @@ module _ (logs : Bool) (s : State) (log : List ℕ) where
   pub lacks_fitting : fits_row log s.entries.0 ≡ true → Lacks false
   lacks_fitting f = ((λ e. absurd (false≢true e)), λ _ cause e. ap (λ (b : Bool). logs && not b) f ∙ and_false logs)
 
-  pub lacks_nothing : pending_of s.machine ≡ Nothing → Lacks false
-  lacks_nothing n = ((λ e. absurd (false≢true e)), λ _ cause e. let z : ◌≡◌ {A = Pending} Nothing (Due cause) = sym n ∙ e in apart cc)
+  pub lacks_nothing : pending_of s.machine ≡ None → Lacks false
+  lacks_nothing n = ((λ e. absurd (false≢true e)), λ _ cause e. let z : ◌≡◌ {A = Option Cause} None (Some cause) = sym n ∙ e in apart cc)
 
-  pub lacks_due : {cause : Cause} → logs ≡ true → fits_row log s.entries.0 ≡ false → pending_of s.machine ≡ Due cause → Lacks true
+  pub lacks_due : {cause : Cause} → logs ≡ true → fits_row log s.entries.0 ≡ false → pending_of s.machine ≡ Some cause → Lacks true
   lacks_due {cause} a f d = (
     (λ _ since i area o.
         let l = lending i area o log in

@@ -1,11 +1,10 @@
 -- What every record applied, byte sent, interrupt entered, waiting cycle and instruction keeps, a run keeps. Assumes nothing.
+use Rattle.std.specs.Prelude.{Some}
 use Rattle.std.proofs.Common.{◌≡◌, ◌<◌, true, false, length, arith}
 use Rattle.turns.specs.Turn.{Turn, Then}
 use Rattle.opcodes.specs.declared.Instruction.{Instruction}
 use Rattle.registers.specs.Registers.{idles}
 use Rattle.machine.specs.declared.Cause.{Cause}
-use Rattle.machine.specs.declared.Look.TheVariants.{Runs}
-use Rattle.machine.specs.declared.Pending.TheVariants.{Due}
 use Rattle.machine.specs.Interrupts.{pending_of}
 use Rattle.machine.specs.Steps.{look_of, step_of}
 use Rattle.boundary.specs.World.{memories_in, Terms, World, world_of, Ended}
@@ -20,11 +19,11 @@ pub record Keeps (t : Terms) (Q : World → Type 0) : Type 0 where
   pub applied : (w : World) → due t.session w.state ≡ true → Q w
       → Q (world_of (record_taken t.session (memories_in w.lent) w.state) w.lent)
   pub sent : (w : World) → w.state.sent.0 < length w.lent.output → Q w → Q (sent_world w)
-  pub entered : (w : World) (cause : Cause) → pending_of w.state.machine ≡ Due cause → lacks_row t.watch w.state w.lent.log ≡ false
+  pub entered : (w : World) (cause : Cause) → pending_of w.state.machine ≡ Some cause → lacks_row t.watch w.state w.lent.log ≡ false
       → w.state.cycles.0 < t.limit → Q w → Q (entered_world cause (logged_world t.watch cause w))
   pub waited : (w : World) → idles w.state.machine.chip.registers ≡ true → w.state.cycles.0 < t.limit → Q w → Q (waited_world w)
   pub stepped : (w : World) (i : Instruction) → idles w.state.machine.chip.registers ≡ false
-      → look_of (memories_in w.lent) w.state.machine ≡ Runs i → w.state.cycles.0 < t.limit → Q w
+      → look_of (memories_in w.lent) w.state.machine ≡ Some i → w.state.cycles.0 < t.limit → Q w
       → Q (stepped_world (step_of i (memories_in w.lent) w.state.machine) w)
 
 module _ (t : Terms) (Q : World → Type 0) (k : Keeps t Q) where

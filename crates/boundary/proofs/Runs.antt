@@ -1,15 +1,12 @@
 -- The laws of the run: each way that a boundary can go, that each which goes on passes a cycle, the run as its boundaries,
 -- and what every boundary keeps. Assumes nothing.
+use Rattle.std.specs.Prelude.{Option, None, Some}
 use Rattle.std.proofs.Common.{◌≡◌, ℕ, suc, ◌+◌, ◌<◌, ◌≤◌, true, false, cond, leb, length, sym, refl, arith, leb-false, leb-true}
 use Rattle.turns.specs.Turn.{Turn, more, done, on_turn, Then}
 use Rattle.turns.proofs.Laws.{then_more, then_done, loop_more, loop_done, loop_unfolds, loop_leap, loop_keeps}
 use Rattle.opcodes.specs.declared.Instruction.{Instruction}
 use Rattle.registers.specs.Registers.{idles}
 use Rattle.machine.specs.declared.Cause.{Cause}
-use Rattle.machine.specs.declared.Look.{Look}
-use Rattle.machine.specs.declared.Look.TheVariants as looks
-use Rattle.machine.specs.declared.Pending.{Pending}
-use Rattle.machine.specs.declared.Pending.TheVariants.{Nothing, Due}
 use Rattle.machine.specs.Interrupts.{pending_of}
 use Rattle.machine.specs.Steps.{entered_of, look_of, step_of}
 use Rattle.machine.proofs.Steps.{step_cycles}
@@ -26,24 +23,24 @@ use Rattle.boundary.proofs.Cases.{records_fine, records_cycles}
 -- each way that a boundary can go
 module _ (P : Turn World Ended → Type 0) where
   pub act_cases : (watch : Watch) (w : World)
-      → ((cause : Cause) → pending_of w.state.machine ≡ Due cause → lacks_row watch w.state w.lent.log ≡ true → P (done (ended_of LogFull w)))
-      → ((cause : Cause) → pending_of w.state.machine ≡ Due cause → lacks_row watch w.state w.lent.log ≡ false
+      → ((cause : Cause) → pending_of w.state.machine ≡ Some cause → lacks_row watch w.state w.lent.log ≡ true → P (done (ended_of LogFull w)))
+      → ((cause : Cause) → pending_of w.state.machine ≡ Some cause → lacks_row watch w.state w.lent.log ≡ false
       → P (more (entered_world cause (logged_world watch cause w))))
-      → (pending_of w.state.machine ≡ Nothing → idles w.state.machine.chip.registers ≡ true → P (more (waited_world w)))
+      → (pending_of w.state.machine ≡ None → idles w.state.machine.chip.registers ≡ true → P (more (waited_world w)))
       → P (done (ended_of Undefined w))
-      → ((i : Instruction) → idles w.state.machine.chip.registers ≡ false → look_of (memories_in w.lent) w.state.machine ≡ looks.Runs i
+      → ((i : Instruction) → idles w.state.machine.chip.registers ≡ false → look_of (memories_in w.lent) w.state.machine ≡ Some i
       → P (more (stepped_world (step_of i (memories_in w.lent) w.state.machine) w)))
       → P (act_of watch w)
   unfolding act_of
   act_cases watch w lacks entry idle bad op = by (pending_of w.state.machine) refl
     where
-      looked : idles w.state.machine.chip.registers ≡ false → (k : Look) → look_of (memories_in w.lent) w.state.machine ≡ k → P (executed_of k w)
-      looked f looks.Undefined e = bad
-      looked f (looks.Runs i) e = op i f e
+      looked : idles w.state.machine.chip.registers ≡ false → (k : Option Instruction) → look_of (memories_in w.lent) w.state.machine ≡ k → P (executed_of k w)
+      looked f None e = bad
+      looked f (Some i) e = op i f e
 
-      by : (p : Pending) → pending_of w.state.machine ≡ p → P (on_pending watch p w)
-      by (Due cause) e = cases P (lacks_row watch w.state w.lent.log) (lacks cause e) (entry cause e)
-      by Nothing e = cases P (idles w.state.machine.chip.registers) (idle e) (λ f. looked f _ refl)
+      by : (p : Option Cause) → pending_of w.state.machine ≡ p → P (on_pending watch p w)
+      by (Some cause) e = cases P (lacks_row watch w.state w.lent.log) (lacks cause e) (entry cause e)
+      by None e = cases P (idles w.state.machine.chip.registers) (idle e) (λ f. looked f _ refl)
 
   pub boundary_cases : (t : Terms) (w : World)
       → (t.limit ≤ w.state.cycles.0 → P (done (ended_of Limit w)))
@@ -66,7 +63,7 @@ unfolding entered_of
 entry_takes cause w = cases (λ (k : ℕ). 0 < k) w.state.machine.chip.registers.waiting {x = 4} {y = 12} (λ _. omega arith) (λ _. omega arith)
 
 -- and an instruction 2 to 12
-pub step_takes : (i : Instruction) (w : World) → look_of (memories_in w.lent) w.state.machine ≡ looks.Runs i
+pub step_takes : (i : Instruction) (w : World) → look_of (memories_in w.lent) w.state.machine ≡ Some i
     → 0 < (step_of i (memories_in w.lent) w.state.machine).cycles
 step_takes i w e = let b = (step_cycles (memories_in w.lent) w.state.machine i e).0 in omega arith
 

@@ -1,16 +1,13 @@
 -- One boundary of a run, in 01's six steps and their order, with 02's wake log, and the run as boundaries until one stops it.
-use Rattle.std.specs.Prelude.{ℕ, ◌+◌, ◌-◌, ◌%◌, ◌^◌, Bool, true, false, cond, not, ◌&&◌, List, length, nat_le, slice_set}
+use Rattle.std.specs.Prelude.{ℕ, ◌+◌, ◌-◌, ◌%◌, ◌^◌, Bool, true, false, cond, not, ◌&&◌, List, length, nat_le, slice_set, Option, None, Some}
 use Rattle.turns.specs.Turn.{Turn, more, done, loop_of}
 use Rattle.session.specs.Session.{event_at, next_at, due_at}
 use Rattle.serial.specs.Serial.{wants_to_send}
 use Rattle.registers.specs.Registers.{idles}
 use Rattle.bus.specs.Access.{Memories}
 use Rattle.bus.specs.Units.{byte_sent}
+use Rattle.opcodes.specs.declared.Instruction.{Instruction}
 use Rattle.machine.specs.declared.Cause.{Cause}
-use Rattle.machine.specs.declared.Look.{Look}
-use Rattle.machine.specs.declared.Look.TheVariants as looks
-use Rattle.machine.specs.declared.Pending.{Pending}
-use Rattle.machine.specs.declared.Pending.TheVariants.{Nothing, Due}
 use Rattle.machine.specs.Machine.{passed_of}
 use Rattle.machine.specs.Interrupts.{pending_of, cause_number, behind_of}
 use Rattle.machine.specs.Events.{applied_of, on_bus}
@@ -114,15 +111,15 @@ waited_world w = world_of (waited_state w.state) w.lent
 abbrev pub stepped_world : Stepped → World → World
 stepped_world r w = world_of (grown_to w.state r.machine (by_instructions r.cycles 1) false) (with_memories w.lent r.memory)
 
-abbrev pub executed_of : Look → World → Turn World Ended
-executed_of looks.Undefined w = done (ended_of Undefined w)
-executed_of (looks.Runs i) w = more (stepped_world (step_of i (memories_in w.lent) w.state.machine) w)
+abbrev pub executed_of : Option Instruction → World → Turn World Ended
+executed_of None w = done (ended_of Undefined w)
+executed_of (Some i) w = more (stepped_world (step_of i (memories_in w.lent) w.state.machine) w)
 
 -- steps 4 to 6: "11 .. given at the boundary before the entry"
-abbrev pub on_pending : Watch → Pending → World → Turn World Ended
-on_pending watch (Due cause) w =
+abbrev pub on_pending : Watch → Option Cause → World → Turn World Ended
+on_pending watch (Some cause) w =
     cond (lacks_row watch w.state w.lent.log) (done (ended_of LogFull w)) (more (entered_world cause (logged_world watch cause w)))
-on_pending watch Nothing w =
+on_pending watch None w =
     cond (idles w.state.machine.chip.registers)
     (more (waited_world w))
     (executed_of (look_of (memories_in w.lent) w.state.machine) w)

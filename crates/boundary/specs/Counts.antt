@@ -1,9 +1,8 @@
 -- What the counts keep among themselves, so that none of them can pass its type, and whether step 4 has room for a row. For the code's own promises.
-use Rattle.std.specs.Prelude.{◌≡◌, ℕ, ◌+◌, ◌^◌, ◌<◌, ◌≤◌, Bool, false, List}
+use Rattle.std.specs.Prelude.{◌≡◌, ℕ, ◌+◌, ◌^◌, ◌<◌, ◌≤◌, Bool, false, List, Some}
 use Rattle.counts.specs.declared.Cycles.{Cycles}
 use Rattle.turns.specs.Turn.{done}
 use Rattle.machine.specs.declared.Cause.{Cause}
-use Rattle.machine.specs.declared.Pending.TheVariants.{Due}
 use Rattle.machine.specs.Interrupts.{pending_of}
 use Rattle.boundary.specs.declared.Stop.TheVariants.{LogFull}
 use Rattle.boundary.specs.World.{lending, world_of, ended_of}
@@ -38,4 +37,4 @@ Refuses logs s log =
 -- .. there is room for the row of any interrupt that is to be accepted
 abbrev pub Accepts : Bool → State → List ℕ → Type 0
 Accepts logs s log =
-    (cause : Cause) → pending_of s.machine ≡ Due cause → lacks_row (record { log = logs; since = record { 0 = 0 } }) s log ≡ false
+    (cause : Cause) → pending_of s.machine ≡ Some cause → lacks_row (record { log = logs; since = record { 0 = 0 } }) s log ≡ false

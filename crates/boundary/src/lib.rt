@@ -6,12 +6,11 @@ ghost use Rattle.boundary.specs.World.{Lent, lending, with_memories, watching, u
 ghost use Rattle.boundary.specs.Boundary.{record_taken, records_of, sent_state, waited_state, row_of, lacks_row, logged_of, entered_world};
 ghost use Rattle.boundary.specs.Boundary.{executed_of, on_pending, act_of, send_of, boundary_of, turned};
 ghost use Rattle.boundary.specs.Counts.{Fine, Ready, Fits, Refuses, Accepts};
-ghost use Rattle.machine.specs.declared.Pending.TheVariants.{Due};
 ghost use Rattle.machine.specs.Steps.{look_of};
 ghost use Rattle.bus.specs.Access.{memories};
 
 use counts::{Cycles, Entries, Instructions, Leaps, Records, Sent};
-use machine::{Cause, Look, Machine, Pending};
+use machine::{Cause, Machine};
 use std::num::wrapping_add_u32;
 use wake_log::Row;
 
@@ -203,8 +202,8 @@ impl State {
         }
         let p = self.machine.pending();
         match p {
-            Pending::Due(cause) => true,
-            Pending::Nothing => false,
+            Some(_) => true,
+            None => false,
         }
     }
 
@@ -229,7 +228,7 @@ impl State {
     ) -> Turned
         requires { Ready self × (lacks_row watch self log.old ≡ false) }
         ensures { (o : List ℕ) → turned result (lending image.new area.new o log.new)
-            ≡ on_pending watch (Due cause) (world_of self (lending image.old area.old o log.old)) }
+            ≡ on_pending watch (Some cause) (world_of self (lending image.old area.old o log.old)) }
     {
         self.log_entry(watch, cause, log);
         Turned {
@@ -263,11 +262,11 @@ impl State {
     {
         let look = self.machine.look(image, area);
         match look {
-            Look::Undefined => Turned {
+            None => Turned {
                 state: self,
                 progress: Progress::Stopped(Stop::Undefined),
             },
-            Look::Runs(i) => {
+            Some(i) => {
                 let e = self.machine.step(i, image, area);
                 let cycles = e.cycles;
                 let by = Grown {
@@ -300,14 +299,14 @@ impl State {
     {
         let p = self.machine.pending();
         match p {
-            Pending::Due(cause) => {
+            Some(cause) => {
                 let watch = Watch {
                     log: logs,
                     since: since,
                 };
                 self.accept(watch, cause, image, area, log)
             }
-            Pending::Nothing => {
+            None => {
                 if self.machine.chip.registers.idles() {
                     return Turned {
                         state: self.wait(),

@@ -1,5 +1,6 @@
 -- The cycles, the records used and the bytes sent of a run are the sums of what its boundaries took, applied and sent, told one by
 -- one. Assumes nothing.
+use Rattle.std.specs.Prelude.{Option, None, Some}
 use Prim.Native.Nat.{ℕ, ◌+◌, ◌-◌, ◌≤◌, ◌<◌}
 use native.Mathlib.Omega.{arith}
 use mathlib.Core.Path.{◌≡◌, refl, sym, ap, ◌∙◌}
@@ -15,12 +16,9 @@ use Rattle.session.specs.Session.{next_at, due_at}
 use Rattle.session.proofs.Laws.{next_after, due_there}
 use Rattle.registers.specs.Registers.{idles}
 use Rattle.bus.specs.Access.{Memories}
+use Rattle.opcodes.specs.declared.Instruction.{Instruction}
 use Rattle.machine.specs.declared.Machine.{Machine}
 use Rattle.machine.specs.declared.Cause.{Cause}
-use Rattle.machine.specs.declared.Look.{Look}
-use Rattle.machine.specs.declared.Look.TheVariants.{Undefined, Runs}
-use Rattle.machine.specs.declared.Pending.{Pending}
-use Rattle.machine.specs.declared.Pending.TheVariants.{Nothing, Due}
 use Rattle.machine.specs.Interrupts.{pending_of}
 use Rattle.machine.specs.Steps.{entry_cycles, entered_of, look_of, step_of}
 use Rattle.boundary.specs.declared.State.{State}
@@ -123,11 +121,11 @@ module _ (s : State) (a b : ℕ) (w : World) (h : Adds (tally a b 0) s w.state) 
   unfolding act_of entered_world waited_state entered_of step_of
   act_adds watch = by (pending_of w.state.machine)
     where
-      looked : (k : Look) → AddsThen s (tally a b (look_cycles k)) (executed_of k w)
-      looked Undefined = h
-      looked (Runs i) = record { cycles = takes _; used = h.used; sent = h.sent }
+      looked : (k : Option Instruction) → AddsThen s (tally a b (look_cycles k)) (executed_of k w)
+      looked None = h
+      looked (Some i) = record { cycles = takes _; used = h.used; sent = h.sent }
 
-      look : Look
+      look : Option Instruction
       look = look_of (memories_in w.lent) w.state.machine
 
       goes : (idle : Bool) → AddsThen s (tally a b (cond idle 1 (look_cycles look))) (cond idle (more (waited_world w)) (executed_of look w))
@@ -140,9 +138,9 @@ module _ (s : State) (a b : ℕ) (w : World) (h : Adds (tally a b 0) s w.state) 
       accepts cause true = h
       accepts cause false = record { cycles = takes _; used = h.used; sent = h.sent }
 
-      by : (p : Pending) → AddsThen s (tally a b (cycles_by watch p w)) (on_pending watch p w)
-      by (Due cause) = accepts cause (lacks_row watch w.state w.lent.log)
-      by Nothing = goes (idles w.state.machine.chip.registers)
+      by : (p : Option Cause) → AddsThen s (tally a b (cycles_by watch p w)) (on_pending watch p w)
+      by (Some cause) = accepts cause (lacks_row watch w.state w.lent.log)
+      by None = goes (idles w.state.machine.chip.registers)
 
 -- the counts of a state are the totals of the tallies
 pub record Told (ts : List Tally) (s : State) : Type 0 where

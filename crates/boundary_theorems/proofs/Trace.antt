@@ -1,5 +1,6 @@
 -- The counts of a run are those of its boundaries, told one by one: its leaps are the longest stretches of waiting cycles (Longest.antt:
 -- `longest_groups`), its entries and instructions the boundaries that took steps 4 and 6. Assumes nothing.
+use Rattle.std.specs.Prelude.{Option, None, Some}
 use Prim.Native.Nat.{ℕ, ◌+◌}
 use mathlib.Core.Path.{◌≡◌, refl, sym, ap, subst, ◌∙◌}
 use mathlib.Core.Bool.{Bool, true, false, not, cond, ◌&&◌}
@@ -10,11 +11,9 @@ use Rattle.turns.specs.Turn.{Turn, more, done, Then}
 use Rattle.turns.proofs.Recorded.{total_last, rows_keep}
 use Rattle.registers.specs.Registers.{idles}
 use Rattle.bus.specs.Access.{Memories}
+use Rattle.opcodes.specs.declared.Instruction.{Instruction}
+use Rattle.machine.specs.declared.Cause.{Cause}
 use Rattle.machine.specs.declared.Machine.{Machine}
-use Rattle.machine.specs.declared.Look.{Look}
-use Rattle.machine.specs.declared.Look.TheVariants.{Undefined, Runs}
-use Rattle.machine.specs.declared.Pending.{Pending}
-use Rattle.machine.specs.declared.Pending.TheVariants.{Nothing, Due}
 use Rattle.machine.specs.Interrupts.{pending_of}
 use Rattle.machine.specs.Steps.{look_of}
 use Rattle.boundary.specs.declared.State.{State}
@@ -81,9 +80,9 @@ module _ (ms : List TraceMark) (a b : Bool) (w : World) (h : Follows ms (not a &
           → Follows (ms ++ mark t ∷ []) true s
       counted t s l e i f = after t s (counted_more ms (mark t) w.state s h.counted l e i) f
 
-      looked : (k : Look) → Marked ms (mark instruction) (executed_of k w)
-      looked Undefined = h.counted
-      looked (Runs i) = counted instruction _ refl refl refl refl
+      looked : (k : Option Instruction) → Marked ms (mark instruction) (executed_of k w)
+      looked None = h.counted
+      looked (Some i) = counted instruction _ refl refl refl refl
 
       goes : (idle : Bool)
           → Marked ms (mark (cond idle waiting_cycle instruction))
@@ -91,10 +90,10 @@ module _ (ms : List TraceMark) (a b : Bool) (w : World) (h : Follows ms (not a &
       goes true = counted waiting_cycle _ (ap (λ (i : Bool). w.state.leaps.0 + cond i 0 1) h.inside) refl refl refl
       goes false = looked (look_of (memories_in w.lent) w.state.machine)
 
-      by : (p : Pending) → Marked ms (mark (step_by p (idles w.state.machine.chip.registers))) (on_pending watch p w)
-      by (Due cause) =
+      by : (p : Option Cause) → Marked ms (mark (step_by p (idles w.state.machine.chip.registers))) (on_pending watch p w)
+      by (Some cause) =
           cases (Marked ms (mark entry)) (lacks_row watch w.state w.lent.log) (λ _. h.counted) (λ _. counted entry _ refl refl refl refl)
-      by Nothing = goes (idles w.state.machine.chip.registers)
+      by None = goes (idles w.state.machine.chip.registers)
 
 -- step 2 keeps the counts, and tells by `inside` whether there was a record
 module _ (session : List ℕ) (w : World) where

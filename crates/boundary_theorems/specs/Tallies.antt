@@ -1,13 +1,11 @@
 -- What each boundary of a run did, told one by one: the records that it applied, the bytes that it sent and the cycles that it took.
-use Rattle.std.specs.Prelude.{ℕ, ◌+◌, ◌-◌, cond, List, [], ◌∷◌, leb, length}
+use Rattle.std.specs.Prelude.{ℕ, ◌+◌, ◌-◌, cond, List, [], ◌∷◌, leb, length, Option, None, Some}
 use Rattle.turns.specs.Turn.{Turn, more, done, loop_of}
 use Rattle.turns.specs.Recorded.{rows_of}
 use Rattle.session.specs.Session.{next_at, due_at}
 use Rattle.registers.specs.Registers.{idles}
-use Rattle.machine.specs.declared.Look.{Look}
-use Rattle.machine.specs.declared.Look.TheVariants.{Undefined, Runs}
-use Rattle.machine.specs.declared.Pending.{Pending}
-use Rattle.machine.specs.declared.Pending.TheVariants.{Nothing, Due}
+use Rattle.opcodes.specs.declared.Instruction.{Instruction}
+use Rattle.machine.specs.declared.Cause.{Cause}
 use Rattle.machine.specs.Interrupts.{pending_of}
 use Rattle.machine.specs.Steps.{entry_cycles, look_of}
 use Rattle.boundary.specs.declared.Watch.{Watch}
@@ -41,13 +39,13 @@ abbrev pub due_from : List ℕ → ℕ → ℕ → ℕ
 due_from session count place = due_after session count (record { place = place; records = 0 })
 
 -- Steps 4 to 6: the cycles of an entry, of waiting or of an instruction; an entry without room for its row and an undefined opcode take none
-abbrev pub look_cycles : Look → ℕ
-look_cycles Undefined = 0
-look_cycles (Runs i) = i.cycles
+abbrev pub look_cycles : Option Instruction → ℕ
+look_cycles None = 0
+look_cycles (Some i) = i.cycles
 
-abbrev pub cycles_by : Watch → Pending → World → ℕ
-cycles_by watch (Due cause) w = cond (lacks_row watch w.state w.lent.log) 0 (entry_cycles w.state.machine)
-cycles_by watch Nothing w = cond (idles w.state.machine.chip.registers) 1 (look_cycles (look_of (memories_in w.lent) w.state.machine))
+abbrev pub cycles_by : Watch → Option Cause → World → ℕ
+cycles_by watch (Some cause) w = cond (lacks_row watch w.state w.lent.log) 0 (entry_cycles w.state.machine)
+cycles_by watch None w = cond (idles w.state.machine.chip.registers) 1 (look_cycles (look_of (memories_in w.lent) w.state.machine))
 
 abbrev pub cycles_at : Watch → World → ℕ
 cycles_at watch w = cycles_by watch (pending_of w.state.machine) w

@@ -1,12 +1,11 @@
 -- Leaps in 01's words, over the boundaries of a run one by one: "A leap is a longest stretch of one or more waiting cycles
 -- (step 5) with no record, sending or interrupt at the boundary where any but the first of them begins."
-use Rattle.std.specs.Prelude.{ℕ, Bool, true, false, not, cond, ◌&&◌, List, [], ◌∷◌, ◌++◌, ◌≡◌}
+use Rattle.std.specs.Prelude.{ℕ, Bool, true, false, not, cond, ◌&&◌, List, [], ◌∷◌, ◌++◌, ◌≡◌, Option, None, Some}
 use Rattle.turns.specs.Turn.{Turn, more, done}
 use Rattle.turns.specs.Recorded.{rows_of, count_of}
 use Rattle.registers.specs.Registers.{idles}
+use Rattle.machine.specs.declared.Cause.{Cause}
 use Rattle.machine.specs.declared.Machine.{Machine}
-use Rattle.machine.specs.declared.Pending.{Pending}
-use Rattle.machine.specs.declared.Pending.TheVariants.{Nothing, Due}
 use Rattle.machine.specs.Interrupts.{pending_of}
 use Rattle.boundary.specs.declared.State.{State}
 use Rattle.boundary.specs.World.{Terms, World, Ended}
@@ -18,9 +17,9 @@ pub data Taken : Type 0 where
   waiting_cycle : Taken
   instruction : Taken
 
-abbrev pub step_by : Pending → Bool → Taken
-step_by (Due cause) idle = entry
-step_by Nothing idle = cond idle waiting_cycle instruction
+abbrev pub step_by : Option Cause → Bool → Taken
+step_by (Some cause) idle = entry
+step_by None idle = cond idle waiting_cycle instruction
 
 abbrev pub taken_by : Machine → Taken
 taken_by m = step_by (pending_of m) (idles m.chip.registers)

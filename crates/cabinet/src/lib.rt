@@ -14,7 +14,7 @@ ghost use Rattle.cabinet.specs.Answers.{report_of, answered, answer_of, leaps_of
 
 use boundary::{State, Stop, Watch};
 use counts::{Cycles, Entries, Instructions, Leaps, Records, Sent};
-use machine::{Machine, Power};
+use machine::{Machine, PowerRefusal};
 use opcodes::Instruction;
 use replies::Reply;
 use session::Checked;
@@ -172,7 +172,7 @@ impl Ending {
 }
 
 // Power-on: a machine from an image and R, or a refusal.
-pub fn power_on(image: &[u8], r: u32) -> Power
+pub fn power_on(image: &[u8], r: u32) -> Result<Machine, PowerRefusal>
     ensures { told_power result ≡ power_answer image.now r }
 {
     power::power_on(image, r)

@@ -1,5 +1,6 @@
 -- What a run that was not refused shows where it stops: 01's column "Given exactly when" for replies 0, 8 and 9, and 02's 11. No end shows
 -- two of them. Assumes nothing.
+use Rattle.std.specs.Prelude.{Option, None, Some}
 use Prim.Native.Nat.{◌+◌, ◌*◌, ◌≤◌, ◌<◌}
 use native.Mathlib.Omega.{arith}
 use mathlib.Core.Path.{◌≡◌, refl, sym, ◌∙◌}
@@ -13,11 +14,9 @@ use Rattle.laws.proofs.Bools.{both}
 use Rattle.laws.proofs.Conds.{cases}
 use Rattle.registers.specs.Registers.{idles}
 use Rattle.serial.specs.Serial.{wants_to_send}
-use Rattle.machine.specs.declared.Pending.{Pending}
-use Rattle.machine.specs.declared.Pending.TheVariants.{Nothing, Due}
+use Rattle.opcodes.specs.declared.Instruction.{Instruction}
+use Rattle.machine.specs.declared.Cause.{Cause}
 use Rattle.machine.specs.Interrupts.{pending_of}
-use Rattle.machine.specs.declared.Look.{Look}
-use Rattle.machine.specs.declared.Look.TheVariants as look
 use Rattle.machine.specs.Steps.{look_of}
 use Rattle.boundary.specs.declared.State.{State}
 use Rattle.boundary.specs.declared.Stop.{Stop}
@@ -36,15 +35,15 @@ Shows asked Limit a = asked.limit ≤ a.cycles
 Shows asked Undefined a =
     (a.cycles < asked.limit)
     × (wants_to_send a.machine.chip.bus.serial ≡ false)
-    × (pending_of a.machine ≡ Nothing)
+    × (pending_of a.machine ≡ None)
     × (idles a.machine.chip.registers ≡ false)
-    × (look_of (memories_in a.lent) a.machine ≡ look.Undefined)
+    × (look_of (memories_in a.lent) a.machine ≡ None)
 Shows asked Full a =
     (a.cycles < asked.limit) × (wants_to_send a.machine.chip.bus.serial ≡ true) × (length a.lent.output ≤ a.sent)
 Shows asked LogFull a =
     (a.cycles < asked.limit)
     × (wants_to_send a.machine.chip.bus.serial ≡ false)
-    × (pending_of a.machine ≡ Nothing → ⊥)
+    × (pending_of a.machine ≡ None → ⊥)
     × (asked.watch.log ≡ true)
     × (length a.lent.log < 8 * a.entries + 8)
 
@@ -94,19 +93,19 @@ module _ (asked : Terms) where
   unfolding act_of
   act_shows w r = by (pending_of w.state.machine) refl
     where
-      by : (p : Pending) → pending_of w.state.machine ≡ p → EndsThen (on_pending asked.watch p w)
-      by (Due cause) e =
+      by : (p : Option Cause) → pending_of w.state.machine ≡ p → EndsThen (on_pending asked.watch p w)
+      by (Some cause) e =
           cases EndsThen (lacks_row asked.watch w.state w.lent.log)
           (λ f. let b = both _ _ f in ((r.below, r.silent, (λ n. apart cc), b.0, leb-false _ _ (not-true _ b.1)), r))
           (λ _. tt)
-      by Nothing e =
+      by None e =
           cases EndsThen (idles w.state.machine.chip.registers) (λ _. tt)
           (λ f. looked f (look_of (memories_in w.lent) w.state.machine) refl)
         where
           looked : idles w.state.machine.chip.registers ≡ false
-              → (k : Look) → look_of (memories_in w.lent) w.state.machine ≡ k → EndsThen (executed_of k w)
-          looked f look.Undefined g = ((r.below, r.silent, e, f, g), r)
-          looked f (look.Runs i) g = tt
+              → (k : Option Instruction) → look_of (memories_in w.lent) w.state.machine ≡ k → EndsThen (executed_of k w)
+          looked f None g = ((r.below, r.silent, e, f, g), r)
+          looked f (Some i) g = tt
 
   turn_shows : (w : World) → EndsThen (boundary_of asked w)
   unfolding boundary_of send_of sent_state

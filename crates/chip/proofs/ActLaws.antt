@@ -1,10 +1,11 @@
 -- How a tree's meaning follows its shape: one part after another, a read, a write, the end; and a whole instruction. Assumes nothing.
+use Rattle.bits.specs.declared.Read.{Read}
 use Prim.Native.Nat.{ℕ}
 use mathlib.Core.List.{List}
 use mathlib.Core.Path.{◌≡◌, refl, sym, ap, ◌∙◌, subst⁻¹}
 use Rattle.bus.specs.declared.Bus.{Bus}
 use Rattle.bus.specs.Access.{Memories}
-use Rattle.moments.specs.Moment.{Moment, Read, begun, read_at, write_at, stored_at, ended}
+use Rattle.moments.specs.Moment.{Moment, begun, read_at, write_at, stored_at, ended}
 use Rattle.chip.specs.Act.{Act, Act.done, Act.reading, Act.writing, ◌>>=◌, read, write, Out, out, run, end, ending, timed}
 
 pub run_then : {A B : Type 0} (t : Act A) (f : A → Act B) (o : Moment) (m : Memories)
@@ -25,9 +26,9 @@ unfolding run
 ends a o m p = ap (λ x. out x o m) p
 
 -- a read and a write, by the contracts of the functions that make them
-pub by_read : (m : Memories) (at : ℕ) (o : Moment) {r : Read} → r ≡ read_at m at o → run (read at) o m ≡ out r.value r.next m
+pub by_read : (m : Memories) (at : ℕ) (o : Moment) {r : Read ℕ Moment} → r ≡ read_at m at o → run (read at) o m ≡ out r.value r.next m
 unfolding run read
-by_read m at o e = ap (λ (f : Read). out f.value f.next m) (sym e)
+by_read m at o e = ap (λ (f : Read ℕ Moment). out f.value f.next m) (sym e)
 
 pub by_write : (at v : ℕ) (o : Moment) (m : Memories) {c : Moment} {n : Memories}
     → c ≡ write_at at v o → n ≡ stored_at at v o m → run (write at v) o m ≡ out tt c n

@@ -1,14 +1,12 @@
 -- How the functions tell what a tree comes to: the processor on its bus, with the memories.
 use Rattle.std.specs.Prelude.{ℕ, List}
+use Rattle.bits.specs.declared.Read.{Read}
 use Rattle.bus.specs.Access.{Memories}
 use Rattle.moments.specs.declared.Clocked.{Clocked}
 use Rattle.moments.specs.Clocked.{moment_of}
 use Rattle.registers.specs.declared.Registers.{Registers}
 use Rattle.chip.specs.declared.Chip.{Chip}
 use Rattle.chip.specs.declared.Core.{Core}
-use Rattle.chip.specs.declared.Located.{Located}
-use Rattle.chip.specs.declared.Popped.{Popped}
-use Rattle.chip.specs.declared.PoppedWord.{PoppedWord}
 use Rattle.chip.specs.Act.{Act, Out, out, run, End, end, timed}
 use Rattle.chip.specs.Instructions.{Spot, Pulled}
 
@@ -19,14 +17,11 @@ run_on t p m = run (t p.registers) (moment_of p.bus) m
 abbrev pub ran : Core → Memories → Out Registers
 ran p m = out p.registers (moment_of p.bus) m
 
-abbrev pub located : Located → Memories → Out Spot
-located l m = out (record { at = l.at; registers = l.core.registers }) (moment_of l.core.bus) m
+abbrev pub located : Read ℕ Core → Memories → Out Spot
+located l m = out (record { at = l.value; registers = l.next.registers }) (moment_of l.next.bus) m
 
-abbrev pub popped : Popped → Memories → Out Pulled
-popped p m = out (record { value = p.value; registers = p.core.registers }) (moment_of p.core.bus) m
-
-abbrev pub popped_word : PoppedWord → Memories → Out Pulled
-popped_word p m = out (record { value = p.value; registers = p.core.registers }) (moment_of p.core.bus) m
+abbrev pub popped : Read ℕ Core → Memories → Out Pulled
+popped p m = out (record { value = p.value; registers = p.next.registers }) (moment_of p.next.bus) m
 
 -- the core with other registers, at the same moment
 abbrev pub with_registers : Core → Registers → Core

@@ -11,12 +11,12 @@ ghost use Rattle.chip.specs.Act.{run, out};
 ghost use Rattle.chip.specs.Instructions.{read2, write2, operand, push, push2, pull, pull2, stack_all, rti, vectored, swi, wai, enter};
 ghost use Rattle.chip.specs.Instructions.{operate, execute};
 ghost use Rattle.chip.specs.Shapes.{loads, loads_word, stores, stores_word, modifies, pushes_word};
-ghost use Rattle.chip.specs.Chip.{run_on, ran, located, popped, popped_word, with_registers, core_of, timed_on, left};
+ghost use Rattle.chip.specs.Chip.{run_on, ran, located, popped, with_registers, core_of, timed_on, left};
 ghost use Rattle.bits.specs.Words.{up};
 ghost use Rattle.operations.specs.Operations.{quiet_of};
 ghost use Rattle.registers.specs.Registers.{with_pc};
 
-use bits::{minus, plus};
+use bits::{Read, minus, plus};
 use bus::Bus;
 use moments::Clocked;
 use opcodes::{Instruction, Monadic, Operation, Place, WideStore};
@@ -37,39 +37,15 @@ pub struct Core {
     pub bus: Clocked,
 }
 
-#[derive(Clone, Copy)]
-pub struct WordRead {
-    pub value: u16,
-    pub next: Clocked,
-}
-
-#[derive(Clone, Copy)]
-pub struct Located {
-    pub at: u16,
-    pub core: Core,
-}
-
-#[derive(Clone, Copy)]
-pub struct Popped {
-    pub value: u8,
-    pub core: Core,
-}
-
-#[derive(Clone, Copy)]
-pub struct PoppedWord {
-    pub value: u16,
-    pub core: Core,
-}
-
 // Two bytes, the high one first.
-fn read_word(b: Clocked, image: &[u8], area: &[u8], at: u16) -> WordRead
+fn read_word(b: Clocked, image: &[u8], area: &[u8], at: u16) -> Read<u16, Clocked>
     ensures { run (read2 at) (moment_of b) (memories image.now area.now)
         ≡ out result.value (moment_of result.next) (memories image.now area.now) }
 {
     let h = b.read(image, area, at);
     let l = h.next.read(image, area, plus(at, 1));
     let next = l.next;
-    WordRead {
+    Read {
         value: bits::pair(h.value, l.value),
         next: next,
     }
@@ -84,29 +60,32 @@ fn write_word(b: Clocked, image: &mut [u8], area: &mut [u8], at: u16, w: u16) ->
 }
 
 // An operand's address, with PC moved past n bytes of the instruction.
-fn spot_at(at: u16, c: Registers, b: Clocked, n: u16) -> Located
-    ensures { result ≡ record { at = at; core = core_of (with_pc c (up c.pc n)) b } }
+fn spot_at(at: u16, c: Registers, b: Clocked, n: u16) -> Read<u16, Core>
+    ensures { result ≡ record { value = at; next = core_of (with_pc c (up c.pc n)) b } }
 {
     let registers = c.with_pc(plus(c.pc, n));
     let core = Core {
         registers: registers,
         bus: b,
     };
-    Located { at: at, core: core }
+    Read {
+        value: at,
+        next: core,
+    }
 }
 
 impl Core {
     // Where the operand is.
-    fn locate(self, place: Place, image: &[u8], area: &[u8]) -> Located
+    fn locate(self, place: Place, image: &[u8], area: &[u8]) -> Read<u16, Core>
         ensures { run_on (operand place) self (memories image.now area.now)
             ≡ located result (memories image.now area.now) }
     {
         let c = self.registers;
         let b = self.bus;
         match place {
-            Place::Inherent => Located { at: 0, core: self },
-            Place::AccumulatorA => Located { at: 0, core: self },
-            Place::AccumulatorB => Located { at: 0, core: self },
+            Place::Inherent => Read { value: 0, next: self },
+            Place::AccumulatorA => Read { value: 0, next: self },
+            Place::AccumulatorB => Read { value: 0, next: self },
             Place::ImmediateByte => spot_at(c.pc, c, b, 1),
             Place::ImmediateWord => spot_at(c.pc, c, b, 2),
             Place::Direct => {
@@ -152,7 +131,7 @@ impl Core {
         p.push(bits::upper(w), image, area)
     }
 
-    fn pull(self, image: &[u8], area: &[u8]) -> Popped
+    fn pull(self, image: &[u8], area: &[u8]) -> Read<u8, Core>
         ensures { run_on pull self (memories image.now area.now)
             ≡ popped result (memories image.now area.now) }
     {
@@ -165,22 +144,22 @@ impl Core {
             registers: registers,
             bus: bus,
         };
-        Popped {
+        Read {
             value: f.value,
-            core: core,
+            next: core,
         }
     }
 
-    fn pull_word(self, image: &[u8], area: &[u8]) -> PoppedWord
+    fn pull_word(self, image: &[u8], area: &[u8]) -> Read<u16, Core>
         ensures { run_on pull2 self (memories image.now area.now)
-            ≡ popped_word result (memories image.now area.now) }
+            ≡ popped result (memories image.now area.now) }
     {
         let h = self.pull(image, area);
-        let l = h.core.pull(image, area);
-        let core = l.core;
-        PoppedWord {
+        let l = h.next.pull(image, area);
+        let core = l.next;
+        Read {
             value: bits::pair(h.value, l.value),
-            core: core,
+            next: core,
         }
     }
 
@@ -202,11 +181,11 @@ impl Core {
         ensures { run_on rti self (memories image.now area.now) ≡ ran result (memories image.now area.now) }
     {
         let k = self.pull(image, area);
-        let b = k.core.pull(image, area);
-        let a = b.core.pull(image, area);
-        let x = a.core.pull_word(image, area);
-        let pc = x.core.pull_word(image, area);
-        let core = pc.core;
+        let b = k.next.pull(image, area);
+        let a = b.next.pull(image, area);
+        let x = a.next.pull_word(image, area);
+        let pc = x.next.pull_word(image, area);
+        let core = pc.next;
         let bus = core.bus;
         let registers = Registers {
             a: a.value,
@@ -420,7 +399,7 @@ impl Core {
         let place = i.place;
         let o = f.locate(place, image, area);
         let operation = i.operation;
-        o.core.operate(operation, place, o.at, image, area)
+        o.next.operate(operation, place, o.value, image, area)
     }
 }
 

@@ -1,5 +1,6 @@
 -- A run of the rest beside the run that it goes on: at each boundary the one has what the other has, and besides what the first run
 -- had done. Assumes nothing.
+use Rattle.std.specs.Prelude.{Option, None, Some}
 use Prim.Native.Nat.{ℕ, ◌+◌, ◌-◌, ◌≤◌}
 use native.Mathlib.Nat.{add_assoc}
 use native.Mathlib.Omega.{arith}
@@ -16,12 +17,9 @@ use Rattle.laws.proofs.Orders.{leb_shifted}
 use Rattle.bus.specs.Access.{Memories}
 use Rattle.bus.specs.Units.{byte_sent}
 use Rattle.registers.specs.Registers.{idles}
+use Rattle.opcodes.specs.declared.Instruction.{Instruction}
 use Rattle.machine.specs.declared.Machine.{Machine}
 use Rattle.machine.specs.declared.Cause.{Cause}
-use Rattle.machine.specs.declared.Look.{Look}
-use Rattle.machine.specs.declared.Look.TheVariants as looks
-use Rattle.machine.specs.declared.Pending.{Pending}
-use Rattle.machine.specs.declared.Pending.TheVariants.{Nothing, Due}
 use Rattle.machine.specs.Machine.{passed_of}
 use Rattle.machine.specs.Interrupts.{pending_of, cause_number, behind_of}
 use Rattle.machine.specs.Events.{applied_of, on_bus}
@@ -238,9 +236,9 @@ module _ (s r : List ℕ) (d : Past) (before : ℕ) where
         m : Machine
         m = v.state.machine
 
-        looked : (x : Look) → Goes (executed_of x (raised d v leaps inside)) (executed_of x v)
-        looked looks.Undefined = (refl, record { leaps = leaps; inside = inside; same = refl; apart = a; ahead = k })
-        looked (looks.Runs i) =
+        looked : (x : Option Instruction) → Goes (executed_of x (raised d v leaps inside)) (executed_of x v)
+        looked None = (refl, record { leaps = leaps; inside = inside; same = refl; apart = a; ahead = k })
+        looked (Some i) =
             let e = step_of i memory m in
             grows v e.machine e.cycles 1 0 0 0 leaps inside false e.memory (apart_still a) k
 
@@ -253,8 +251,8 @@ module _ (s r : List ℕ) (d : Past) (before : ℕ) where
             (sym (logged_raised d watch full cause v leaps inside))
             (grows (logged_world watch₂ cause v) e.machine e.cycles 0 1 0 0 leaps inside false e.memory (apart_still a) k)
 
-        by : (p : Pending) → Goes (on_pending watch p (raised d v leaps inside)) (on_pending watch₂ p v)
-        by (Due cause) =
+        by : (p : Option Cause) → Goes (on_pending watch p (raised d v leaps inside)) (on_pending watch₂ p v)
+        by (Some cause) =
             let log = v.lent.log in
             let n = v.state.entries.0 in
             both_cond Goes
@@ -262,7 +260,7 @@ module _ (s r : List ℕ) (d : Past) (before : ℕ) where
             (lacks_behind watch.log d.logged log d.entries n full)
             (λ _. (refl, record { leaps = leaps; inside = inside; same = refl; apart = a; ahead = k }))
             (λ _. entered cause)
-        by Nothing =
+        by None =
             both_cond Goes (idles m.chip.registers) (idles m.chip.registers) refl
             (λ _. grows v (passed_of 1 m) 1 0 0 (cond inside 0 1) (cond v.state.inside 0 1) leaps inside true memory
             (apart_waits before leaps inside v.state.leaps.0 v.state.inside a) k)

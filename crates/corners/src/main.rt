@@ -8,7 +8,7 @@ use arithmetic::Codes;
 use bits::Flag;
 use bus::{Bus, peek};
 use chip::Chip;
-use machine::{Look, Machine};
+use machine::Machine;
 use ports::{Port, Ports};
 use registers::Registers;
 use serial::Serial;
@@ -173,7 +173,7 @@ fn load(row: &[u8], image: &mut [u8]) {
 impl Ran {
     // One instruction further; none where the opcode is undefined.
     fn further(self, image: &mut [u8], area: &mut [u8]) -> Ran {
-        let Look::Runs(i) = self.machine.look(image, area) else {
+        let Some(i) = self.machine.look(image, area) else {
             return self;
         };
         let moved = self.machine.step(i, image, area);

@@ -1,5 +1,6 @@
 -- Two runs of one session and limit from one world, that differ in whether the log is asked for or in the log lent: where the second has room
 -- for the first's rows, it goes as the first does, with the rows of the first in its own log. Assumes nothing.
+use Rattle.std.specs.Prelude.{Option, None, Some}
 use Prim.Native.Nat.{ℕ, ◌*◌, ◌≤◌}
 use native.Mathlib.Omega.{arith}
 use mathlib.Core.Path.{◌≡◌, refl, sym, ap, subst, ◌∙◌}
@@ -9,8 +10,7 @@ use lib.ListN.{length}
 use Rattle.turns.specs.Turn.{Turn, more, done, Then}
 use Rattle.turns.proofs.Recorded.{rows_more, rows_done, rows_keep}
 use Rattle.laws.proofs.Apart.{apart}
-use Rattle.machine.specs.declared.Pending.{Pending}
-use Rattle.machine.specs.declared.Pending.TheVariants.{Nothing, Due}
+use Rattle.machine.specs.declared.Cause.{Cause}
 use Rattle.machine.specs.Interrupts.{pending_of}
 use Rattle.wake_log.specs.declared.Row.{Row}
 use Rattle.boundary.specs.declared.State.{State}
@@ -91,9 +91,9 @@ module _ (t : Terms) (b₁ b₂ : Bool) (w : World) (l₂ : List ℕ) where
         v₂ : World
         v₂ = relogged (log_then rows) v
 
-        same_row : (p : Pending) → row_by second.watch p s ≡ row_by first.watch p s
-        same_row (Due cause) = refl
-        same_row Nothing = refl
+        same_row : (p : Option Cause) → row_by second.watch p s ≡ row_by first.watch p s
+        same_row (Some cause) = refl
+        same_row None = refl
 
         goes : (u : World) → boundary_of first v ≡ more u → boundary_of second v₂ ≡ more (relogged (log_then (rows ++ wake_of first.watch s)) u)
             → Written b₁ w.state.entries.0 w.lent.log (rows ++ wake_of first.watch s) u → So (rows ++ wake_of first.watch s) u

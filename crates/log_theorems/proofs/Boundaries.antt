@@ -1,5 +1,6 @@
 -- One boundary of two runs that differ in whether the log is asked for or in the log lent: where the second has room for the row, it goes as
 -- the first does. Assumes nothing.
+use Rattle.std.specs.Prelude.{Option, None, Some}
 use Prim.Native.Nat.{ℕ, ◌+◌, ◌*◌, ◌≤◌}
 use native.Mathlib.Omega.{arith}
 use mathlib.Core.Path.{◌≡◌, refl, sym, ap, subst, ◌∙◌}
@@ -13,10 +14,6 @@ use Rattle.laws.proofs.Conds.{passes}
 use Rattle.opcodes.specs.declared.Instruction.{Instruction}
 use Rattle.registers.specs.Registers.{idles}
 use Rattle.machine.specs.declared.Cause.{Cause}
-use Rattle.machine.specs.declared.Look.{Look}
-use Rattle.machine.specs.declared.Look.TheVariants as looks
-use Rattle.machine.specs.declared.Pending.{Pending}
-use Rattle.machine.specs.declared.Pending.TheVariants.{Nothing, Due}
 use Rattle.machine.specs.Interrupts.{pending_of}
 use Rattle.machine.specs.Steps.{look_of, step_of}
 use Rattle.wake_log.specs.declared.Row.{Row}
@@ -120,10 +117,10 @@ module _ (t : Terms) (b₁ b₂ : Bool) (k : ℕ) (l₁ l₂ : List ℕ) where
               ∙ logged_more k l₁ rows row b₁ _ e (λ a. let q = h.room a in omega (arith, q));
         }
 
-    entry : (cause : Cause) → pending_of w.state.machine ≡ Due cause → (lacks : Bool) → lacks_row one.watch w.state w.lent.log ≡ lacks
+    entry : (cause : Cause) → pending_of w.state.machine ≡ Some cause → (lacks : Bool) → lacks_row one.watch w.state w.lent.log ≡ lacks
         → Goes rows (row_of one.watch cause w.state ∷ []) w.state
         (cond lacks (done (ended_of LogFull w)) (more (entered_world cause (logged_world one.watch cause w))))
-        (on_pending other.watch (Due cause) beside)
+        (on_pending other.watch (Some cause) beside)
     unfolding entered_world logged_of
     entry cause e true f = (h, (sym (entry_again other beside r cause e), r, refl))
     entry cause e false f =
@@ -140,9 +137,9 @@ module _ (t : Terms) (b₁ b₂ : Bool) (k : ℕ) (l₁ l₂ : List ℕ) where
     unfolding act_of
     act_goes = by (pending_of w.state.machine) refl
       where
-        looked : (x : Look) → Goes rows [] w.state (executed_of x w) (executed_of x beside)
-        looked looks.Undefined = (h, refl)
-        looked (looks.Runs i) = λ _. still rows _ _ (steps i, refl)
+        looked : (x : Option Instruction) → Goes rows [] w.state (executed_of x w) (executed_of x beside)
+        looked None = (h, refl)
+        looked (Some i) = λ _. still rows _ _ (steps i, refl)
 
         goes : (idle : Bool)
             → Goes rows [] w.state
@@ -151,10 +148,10 @@ module _ (t : Terms) (b₁ b₂ : Bool) (k : ℕ) (l₁ l₂ : List ℕ) where
         goes true = λ _. still rows _ _ (waits, refl)
         goes false = looked (look_of (memories_in w.lent) w.state.machine)
 
-        by : (p : Pending) → pending_of w.state.machine ≡ p
+        by : (p : Option Cause) → pending_of w.state.machine ≡ p
             → Goes rows (row_by one.watch p w.state) w.state (on_pending one.watch p w) (on_pending other.watch p beside)
-        by (Due cause) e = entry cause e (lacks_row one.watch w.state w.lent.log) refl
-        by Nothing e = goes (idles w.state.machine.chip.registers)
+        by (Some cause) e = entry cause e (lacks_row one.watch w.state w.lent.log) refl
+        by None e = goes (idles w.state.machine.chip.registers)
 
   -- a boundary
   pub turn_goes : (rows : List Row) (w : World) → Has rows w

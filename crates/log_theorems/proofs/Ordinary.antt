@@ -1,11 +1,11 @@
 -- The ordinary run is the watched one with nothing watched, whatever cycles it goes on from. Assumes nothing.
+use Rattle.std.specs.Prelude.{Option, None, Some}
 use mathlib.Core.Path.{◌≡◌, refl, ap}
 use mathlib.Core.Bool.{false, cond}
 use lib.Dec.{leb}
 use lib.ListN.{length}
 use Rattle.turns.specs.Turn.{Turn, done, loop_of}
-use Rattle.machine.specs.declared.Pending.{Pending}
-use Rattle.machine.specs.declared.Pending.TheVariants.{Nothing, Due}
+use Rattle.machine.specs.declared.Cause.{Cause}
 use Rattle.machine.specs.Interrupts.{pending_of}
 use Rattle.boundary.specs.declared.Stop.TheVariants.{Limit, Full}
 use Rattle.boundary.specs.World.{Terms, unwatched, terms, World, Ended, ended_of}
@@ -17,9 +17,9 @@ module _ (t : Terms) where
   unfolding act_of logged_of
   act_ordinary w = by (pending_of w.state.machine)
     where
-      by : (p : Pending) → on_pending (logging false t).watch p w ≡ on_pending unwatched p w
-      by (Due cause) = refl
-      by Nothing = refl
+      by : (p : Option Cause) → on_pending (logging false t).watch p w ≡ on_pending unwatched p w
+      by (Some cause) = refl
+      by None = refl
 
   boundary_ordinary : (w : World) → boundary_of (logging false t) w ≡ boundary_of (terms t.session t.limit) w
   unfolding boundary_of send_of

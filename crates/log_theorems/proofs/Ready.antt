@@ -1,5 +1,6 @@
 -- The state at step 4 of a boundary: no record is due there any more and no byte is to be sent, so that a boundary from there is its
 -- steps 4 to 6 alone. Assumes nothing.
+use Rattle.std.specs.Prelude.{Some}
 use Prim.Native.Nat.{ℕ, ◌<◌}
 use native.Mathlib.Omega.{arith}
 use mathlib.Core.Path.{◌≡◌, refl, ap, ◌∙◌}
@@ -8,7 +9,6 @@ use mathlib.Core.List.{List}
 use Rattle.laws.proofs.Conds.{passes, cases}
 use Rattle.serial.specs.Serial.{wants_to_send, sent_of}
 use Rattle.machine.specs.declared.Cause.{Cause}
-use Rattle.machine.specs.declared.Pending.TheVariants.{Due}
 use Rattle.machine.specs.Interrupts.{pending_of}
 use Rattle.boundary.specs.declared.State.{State}
 use Rattle.boundary.specs.World.{memories_in, Terms, World, world_of}
@@ -72,5 +72,5 @@ module _ (t : Terms) (w : World) where
         ∙ send_rests w.state w.lent t.watch r.silent
 
     -- and step 4 alone where an interrupt is to be accepted
-    pub entry_again : (cause : Cause) → pending_of w.state.machine ≡ Due cause → boundary_of t w ≡ on_pending t.watch (Due cause) w
+    pub entry_again : (cause : Cause) → pending_of w.state.machine ≡ Some cause → boundary_of t w ≡ on_pending t.watch (Some cause) w
     entry_again cause e = boundary_again ∙ act_accepts w.state w.lent t.watch e

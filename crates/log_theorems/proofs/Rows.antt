@@ -1,4 +1,5 @@
 -- Each row of a log is the row of a boundary on the run's path, and is read back from the log at the end. Assumes nothing.
+use Rattle.std.specs.Prelude.{Option, None, Some}
 use Prim.Native.Nat.{ℕ, zero, suc, ◌+◌, ◌*◌, ◌%◌, ◌^◌, ◌≤◌, ◌<◌}
 use native.Mathlib.Omega.{arith}
 use mathlib.Core.Path.{◌≡◌, refl, sym, ap, subst, ◌∙◌}
@@ -13,9 +14,8 @@ use Rattle.turns.specs.Recorded.{path_of}
 use Rattle.turns.proofs.Laws as turns
 use Rattle.turns.proofs.Recorded.{path_more, rows_keep}
 use Rattle.laws.proofs.Conds.{picks}
+use Rattle.machine.specs.declared.Cause.{Cause}
 use Rattle.machine.specs.declared.Machine.{Machine}
-use Rattle.machine.specs.declared.Pending.{Pending}
-use Rattle.machine.specs.declared.Pending.TheVariants.{Nothing, Due}
 use Rattle.machine.specs.Interrupts.{pending_of}
 use Rattle.wake_log.specs.declared.Row.{Row}
 use Rattle.wake_log.specs.Log.{row_bytes, fits_row, with_row, row_at, is_wake, is_row}
@@ -115,11 +115,11 @@ module _ (t : Terms) (w : World) where
       s : State
       s = ready_state t.session v
 
-      told : (u : World) → boundary_of t v ≡ more u → (p : Pending) → pending_of s.machine ≡ p → Each t w w.state.entries.0 (rows ++ row_by t.watch p s)
-      told u e (Due cause) f =
+      told : (u : World) → boundary_of t v ≡ more u → (p : Option Cause) → pending_of s.machine ≡ p → Each t w w.state.entries.0 (rows ++ row_by t.watch p s)
+      told u e (Some cause) f =
           each_last t w w.state.entries.0 rows _ h.each
           (entered_at h.before v u h.path e _ h.rows_here.entries _ (row_tells t.watch s cause f))
-      told u e Nothing f = subst (Each t w w.state.entries.0) (sym (append-nil rows)) h.each
+      told u e None f = subst (Each t w w.state.entries.0) (sym (append-nil rows)) h.each
 
       by : (x : Turn World Ended) → boundary_of t v ≡ x
           → let all = rows ++ if_going x (wake_of t.watch s) in Then (So all) (λ e. Each t w w.state.entries.0 all) x

@@ -1,5 +1,6 @@
 -- What a row tells of the boundary where it was written: "the cause named is the first in the order of the boundary rules whose condition held
 -- there, and those listed behind it are all the others that held (with I set, only NMI holds)". Assumes nothing.
+use Rattle.std.specs.Prelude.{Some}
 use Prim.Native.Nat.{ℕ, ◌+◌, ◌*◌, ◌%◌, ◌^◌, ◌≤◌, ◌<◌}
 use native.Mathlib.Omega.{arith}
 use mathlib.Core.Path.{◌≡◌, refl, sym, ap, ◌∙◌}
@@ -11,7 +12,6 @@ use Rattle.bits.proofs.Bytes.{times, bool_most}
 use Rattle.machine.specs.declared.Machine.{Machine}
 use Rattle.machine.specs.declared.Cause.{Cause}
 use Rattle.machine.specs.declared.Cause.TheVariants.{Nmi, Irq1, Icf, Ocf, Tof, Serial}
-use Rattle.machine.specs.declared.Pending.TheVariants.{Due}
 use Rattle.machine.specs.Interrupts.{holds, causes, pending_of, cause_number, holds_behind, behind_of}
 use Rattle.machine.proofs.Interrupts.{First, pending_first, pending_least, behind_bits}
 use Rattle.wake_log.specs.declared.Row.{Row}
@@ -79,7 +79,7 @@ module _ (test : Cause → Bool) where
       by Serial z =
           omega (arith, summed, z Nmi (omega arith), z Irq1 (omega arith), z Icf (omega arith), z Ocf (omega arith), z Tof (omega arith), z Serial (omega arith))
 
-module _ (cause : Cause) (m : Machine) (e : pending_of m ≡ Due cause) where
+module _ (cause : Cause) (m : Machine) (e : pending_of m ≡ Some cause) where
   -- none up to the accepted cause stands behind it
   none_before : (other : Cause) → cause_number other ≤ cause_number cause → holds_behind cause other m ≡ false
   none_before other l = by (holds other m) refl
@@ -108,7 +108,7 @@ module _ (cause : Cause) (m : Machine) (e : pending_of m ≡ Due cause) where
       all : {a b c : Bool} → a ≡ true → b ≡ true → c ≡ true → (a && (b && c)) ≡ true
       all p q r = rw (p, q, r)
 
-pub row_tells : (watch : Watch) (s : State) (cause : Cause) → pending_of s.machine ≡ Due cause → Tells watch s (row_of watch cause s)
+pub row_tells : (watch : Watch) (s : State) (cause : Cause) → pending_of s.machine ≡ Some cause → Tells watch s (row_of watch cause s)
 row_tells watch s cause e =
     record {
       cause = cause;

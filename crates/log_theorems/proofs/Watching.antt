@@ -1,5 +1,6 @@
 -- Watching only adds its own stop: a run with the log is the run without it until a row lacks room, and 11 leaves the boundary before the entry.
 -- Assumes nothing.
+use Rattle.std.specs.Prelude.{Some}
 use Prim.Native.Nat.{ℕ, ◌+◌, ◌*◌, ◌/◌, ◌≤◌, ◌<◌}
 use native.Mathlib.Omega.{arith}
 use mathlib.Core.Path.{◌≡◌, refl, sym, ap, ◌∙◌}
@@ -14,7 +15,6 @@ use Rattle.laws.proofs.Apart.{apart}
 use Rattle.numbers.specs.Numbers.{over}
 use Rattle.machine.specs.declared.Cause.{Cause}
 use Rattle.machine.specs.declared.Machine.{Machine}
-use Rattle.machine.specs.declared.Pending.TheVariants.{Due}
 use Rattle.machine.specs.Interrupts.{pending_of}
 use Rattle.wake_log.specs.declared.Row.{Row}
 use Rattle.boundary.specs.declared.Stop.{Stop}
@@ -33,7 +33,7 @@ use Rattle.log_theorems.proofs.Log.{rows_entries, log_left, log_room, log_length
 -- Where a run stops with 11: an interrupt is to be accepted, and there is no room for its row.
 record Lacking (t : Terms) (v : World) : Type 0 where
   cause : Cause
-  pending : pending_of v.state.machine ≡ Due cause
+  pending : pending_of v.state.machine ≡ Some cause
   lacks : lacks_row t.watch v.state v.lent.log ≡ true
 
 not_limit : Limit ≡ LogFull → ⊥
@@ -106,7 +106,7 @@ module _ (t : Terms) (m : Machine) (l : Lent) where
   -- to be accepted; the log has no room for its row
   pub record Refused (v : World) : Type 0 where
     pub cause : Cause
-    pub pending : pending_of v.state.machine ≡ Due cause
+    pub pending : pending_of v.state.machine ≡ Some cause
     pub ready : Ready t.session t.limit v.state
     pub full : v.state.entries.0 ≡ length l.log / 8
 

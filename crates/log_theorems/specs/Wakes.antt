@@ -1,10 +1,9 @@
 -- What woke the cabinet: "for each interrupt entry the cycle, the cause, and which lower causes were waiting behind it", told boundary by
 -- boundary from the machine alone; rows as the log's bytes; and a run with the log asked for, or another log lent.
-use Rattle.std.specs.Prelude.{ℕ, ◌*◌, Bool, cond, List, [], ◌∷◌, ◌++◌, take, drop}
+use Rattle.std.specs.Prelude.{ℕ, ◌*◌, Bool, cond, List, [], ◌∷◌, ◌++◌, take, drop, Option, None, Some}
 use Rattle.turns.specs.Recorded.{rows_of}
 use Rattle.numbers.specs.Numbers.{over}
-use Rattle.machine.specs.declared.Pending.{Pending}
-use Rattle.machine.specs.declared.Pending.TheVariants.{Nothing, Due}
+use Rattle.machine.specs.declared.Cause.{Cause}
 use Rattle.machine.specs.Interrupts.{pending_of}
 use Rattle.wake_log.specs.declared.Row.{Row}
 use Rattle.wake_log.specs.Log.{row_bytes}
@@ -15,9 +14,9 @@ use Rattle.boundary.specs.Boundary.{row_of, boundary_of, cycles_left}
 use Rattle.boundary_theorems.specs.Trace.{ready_state, if_going}
 
 -- the row of a boundary that goes on, by its state at step 4: of its entry, or none
-abbrev pub row_by : Watch → Pending → State → List Row
-row_by watch (Due cause) s = row_of watch cause s ∷ []
-row_by watch Nothing s = []
+abbrev pub row_by : Watch → Option Cause → State → List Row
+row_by watch (Some cause) s = row_of watch cause s ∷ []
+row_by watch None s = []
 
 abbrev pub wake_of : Watch → State → List Row
 wake_of watch s = row_by watch (pending_of s.machine) s

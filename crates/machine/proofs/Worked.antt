@@ -1,5 +1,6 @@
 -- 01's benchmarks for the definitions, all of its rows as one table, STAA $09 as 02 replaces it, by steps, events and cycles of whole machines; and examples
 -- of entries and steps. Assumes nothing.
+use Rattle.std.specs.Prelude.{Option, None, Some}
 use Prim.Native.Nat.{ℕ}
 use mathlib.Core.Path.{◌≡◌, refl}
 use mathlib.Core.Bool.{Bool, true, false, xor}
@@ -22,12 +23,11 @@ use Rattle.moments.specs.Moment.{to_next, read_at, write_at, stored_at, ended}
 use Rattle.chip.specs.Act.{timed, run, read, write, ◌>>=◌}
 use Rattle.chip.specs.Instructions.{read2, operand, monadic, sta, wide, push, push2, stack_all, vectored, enter, operate, execute}
 use Rattle.session.specs.declared.Event.TheVariants.{Received}
+use Rattle.opcodes.specs.declared.Instruction.{Instruction}
 use Rattle.machine.specs.declared.Machine.{Machine}
 use Rattle.machine.specs.declared.Cause.TheVariants.{Irq1}
 use Rattle.machine.specs.Machine.{on_chip, passed_of, reset_act, reset_of, cold}
 use Rattle.machine.specs.Events.{applied_of, on_bus}
-use Rattle.machine.specs.declared.Look.{Look}
-use Rattle.machine.specs.declared.Look.TheVariants.{Runs, Undefined}
 use Rattle.machine.specs.Steps.{Stepped, entered_of, look_of, step_of}
 use Rattle.machine.proofs.Reset.{vector_read}
 
@@ -36,9 +36,9 @@ abbrev pub start : Machine
 start = reset_of (memories [] []) (cold 65536)
 
 -- what is told of the step that a look says; nothing where it says that there is none
-abbrev pub told : (Stepped → List ℕ) → Look → Memories → Machine → List ℕ
-told f (Runs i) memory m = f (step_of i memory m)
-told f Undefined memory m = []
+abbrev pub told : (Stepped → List ℕ) → Option Instruction → Memories → Machine → List ℕ
+told f (Some i) memory m = f (step_of i memory m)
+told f None memory m = []
 
 -- one step of the code at $0004 with the byte of the codes, A, B and X given
 abbrev stepped : (Stepped → List ℕ) → ℕ → ℕ → ℕ → ℕ → List ℕ → List ℕ

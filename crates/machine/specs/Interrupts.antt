@@ -1,5 +1,5 @@
 -- Step 4 of a boundary: which causes hold, the first in 01's order, and the others that hold behind it.
-use Rattle.std.specs.Prelude.{ℕ, Bool, false, not, cond, ◌&&◌, List, [], ◌∷◌, eqb}
+use Rattle.std.specs.Prelude.{ℕ, Bool, false, not, cond, ◌&&◌, List, [], ◌∷◌, eqb, Option, None, Some}
 use Rattle.bits.specs.Bits.{byte_of}
 use Rattle.tables.specs.declared.Vector.{Vector}
 use Rattle.tables.specs.declared.Vector.TheVariants as vectors
@@ -7,8 +7,6 @@ use Rattle.serial.specs.Serial.{serial_request}
 use Rattle.machine.specs.declared.Machine.{Machine}
 use Rattle.machine.specs.declared.Cause.{Cause}
 use Rattle.machine.specs.declared.Cause.TheVariants.{Nmi, Irq1, Icf, Ocf, Tof, Serial}
-use Rattle.machine.specs.declared.Pending.{Pending}
-use Rattle.machine.specs.declared.Pending.TheVariants.{Nothing, Due}
 
 -- "a pending NMI; else with I clear the first of IRQ1 low, ICF with EICI, OCF with EOCI, TOF with ETOI, serial (RIE with RDRF or
 -- ORFE, or TIE with TDRE)"
@@ -24,11 +22,11 @@ abbrev pub causes : List Cause
 causes = Nmi ∷ Irq1 ∷ Icf ∷ Ocf ∷ Tof ∷ Serial ∷ []
 
 -- the first of some causes that holds
-abbrev pub first_cause : List Cause → Machine → Pending
-first_cause [] m = Nothing
-first_cause (k ∷ ks) m = cond (holds k m) (Due k) (first_cause ks m)
+abbrev pub first_cause : List Cause → Machine → Option Cause
+first_cause [] m = None
+first_cause (k ∷ ks) m = cond (holds k m) (Some k) (first_cause ks m)
 
-unfoldable pub pending_of : Machine → Pending
+unfoldable pub pending_of : Machine → Option Cause
 pending_of m = first_cause causes m
 
 abbrev pub vector_for : Cause → Vector

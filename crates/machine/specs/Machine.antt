@@ -1,5 +1,5 @@
 -- The machine: its ranges, cycles passing, reset and power-on.
-use Rattle.std.specs.Prelude.{ℕ, ◌≤◌, Bool, true, false, cond, List, [], ◌≡◌, leb, eqb, length}
+use Rattle.std.specs.Prelude.{ℕ, ◌≤◌, Bool, true, false, cond, List, [], ◌≡◌, leb, eqb, length, Result, Ok, Err}
 use Rattle.bits.specs.declared.Flag.{Flag}
 use Rattle.tables.specs.Tables.{vector_of}
 use Rattle.tables.specs.declared.Vector.TheVariants.{Reset}
@@ -13,8 +13,8 @@ use Rattle.registers.specs.declared.Registers.{Registers}
 use Rattle.chip.specs.Act.{Act, Act.done, End, timed, ◌>>=◌}
 use Rattle.chip.specs.Instructions.{read2}
 use Rattle.machine.specs.declared.Machine.{Machine}
-use Rattle.machine.specs.declared.Power.{Power}
-use Rattle.machine.specs.declared.Power.TheVariants.{On, WrongImage, WrongStart}
+use Rattle.machine.specs.declared.PowerRefusal.{PowerRefusal}
+use Rattle.machine.specs.declared.PowerRefusal.TheVariants.{WrongImage, WrongStart}
 
 abbrev pub on_chip : Machine → Registers → Bus → Machine
 on_chip m c b = record { chip = record { registers = c; bus = b }; irq1 = m.irq1; nmi = m.nmi }
@@ -87,8 +87,8 @@ cold r = record {
 }
 
 -- "Power-on takes an image and R and gives a machine, or reply 1 or 2": 1 is WrongImage, 2 WrongStart. It takes no area, and reads none.
-unfoldable pub power_on_of : List ℕ → ℕ → Power
+unfoldable pub power_on_of : List ℕ → ℕ → Result Machine PowerRefusal
 power_on_of image r =
     cond (eqb (length image) 65536)
-    (cond (leb r 65536) (On (reset_of (memories image []) (cold r))) WrongStart)
-    WrongImage
+    (cond (leb r 65536) (Ok (reset_of (memories image []) (cold r))) (Err WrongStart))
+    (Err WrongImage)

@@ -28,10 +28,9 @@ pub struct Machine {
     pub nmi: bool,
 }
 
-// What power-on answers.
+// Why power-on gives no machine.
 #[derive(Clone, Copy)]
-pub enum Power {
-    On(Machine),
+pub enum PowerRefusal {
     WrongImage,
     WrongStart,
 }
@@ -45,19 +44,6 @@ pub enum Cause {
     Ocf,
     Tof,
     Serial,
-}
-
-#[derive(Clone, Copy)]
-pub enum Pending {
-    Nothing,
-    Due(Cause),
-}
-
-// What stands at PC.
-#[derive(Clone, Copy)]
-pub enum Look {
-    Runs(Instruction),
-    Undefined,
 }
 
 // The machine after a step or an entry, and the cycles that it took.
@@ -127,16 +113,16 @@ fn cold_machine(r: u32) -> Machine
 }
 
 // An image and R give a machine, or are refused.
-pub fn power_on(image: &[u8], r: u32) -> Power
+pub fn power_on(image: &[u8], r: u32) -> Result<Machine, PowerRefusal>
     ensures { result ≡ power_on_of image.now r }
 {
     if image.len() != 65536 {
-        return Power::WrongImage;
+        return Err(PowerRefusal::WrongImage);
     }
     if r > 65536 {
-        return Power::WrongStart;
+        return Err(PowerRefusal::WrongStart);
     }
-    Power::On(cold_machine(r).reset(image, &image[..0]))
+    Ok(cold_machine(r).reset(image, &image[..0]))
 }
 
 fn vector_for(cause: Cause) -> Vector
@@ -230,32 +216,32 @@ impl Machine {
     }
 
     // The first cause that holds.
-    pub fn pending(self) -> Pending
+    pub fn pending(self) -> Option<Cause>
         ensures { result ≡ pending_of self }
     {
         let t = self.chip.bus.timer;
         if self.nmi {
-            return Pending::Due(Cause::Nmi);
+            return Some(Cause::Nmi);
         }
         if self.chip.registers.codes.i {
-            return Pending::Nothing;
+            return None;
         }
         if !self.irq1 {
-            return Pending::Due(Cause::Irq1);
+            return Some(Cause::Irq1);
         }
         if t.icf.set & t.eici {
-            return Pending::Due(Cause::Icf);
+            return Some(Cause::Icf);
         }
         if t.ocf.set & t.eoci {
-            return Pending::Due(Cause::Ocf);
+            return Some(Cause::Ocf);
         }
         if t.tof.set & t.etoi {
-            return Pending::Due(Cause::Tof);
+            return Some(Cause::Tof);
         }
         if self.chip.bus.serial.requests() {
-            return Pending::Due(Cause::Serial);
+            return Some(Cause::Serial);
         }
-        Pending::Nothing
+        None
     }
 
     // All other causes that hold, bit k for cause k.
@@ -334,14 +320,11 @@ impl Machine {
     }
 
     // What stands at PC, with no effect on the machine.
-    pub fn look(self, image: &[u8], area: &[u8]) -> Look
+    #[tactic(auto, unfolding(crate::specs::Steps::look_of))]
+    pub fn look(self, image: &[u8], area: &[u8]) -> Option<Instruction>
         ensures { result ≡ look_of (memories image.now area.now) self }
     {
-        let decoded = opcodes::decode(self.opcode(image, area));
-        match decoded {
-            None => Look::Undefined,
-            Some(i) => Look::Runs(i),
-        }
+        opcodes::decode(self.opcode(image, area))
     }
 
     // An instruction, and its cycles.

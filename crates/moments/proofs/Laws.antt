@@ -8,7 +8,7 @@ use mathlib.Core.List.{List}
 use Rattle.timer.specs.Timer.{ticks}
 use Rattle.serial.specs.Serial.{ticks_serial}
 use Rattle.bus.specs.declared.Bus.{Bus}
-use Rattle.bus.specs.declared.Fetched.{Fetched}
+use Rattle.bits.specs.declared.Read.{Read}
 use Rattle.bus.specs.Access.{Memories, held_at, read_of, write_of, store_of}
 use Rattle.bus.specs.Units.{passed}
 use Rattle.bus.proofs.Ranges.{passed_add}
@@ -54,11 +54,11 @@ on c b = record { bus = b; shown = c.shown; cycle = c.cycle; ahead = c.ahead }
 shown_all : (c : Clocked) (b : Bus) → lag c ≡ 0 → moment_of (on c b) ≡ moment b (c.shown + lag c) (listed c.ahead)
 shown_all c b e = ap (λ (x : Bus). moment x (c.shown + lag c) (listed c.ahead)) (passed_none (lag c) b e)
 
-pub read_low_law : (m : Memories) (at : ℕ) (o : Moment) (c : Clocked) {n : Clocked} {f : Fetched} → moment_of c ≡ o → lag c ≡ 0
+pub read_low_law : (m : Memories) (at : ℕ) (o : Moment) (c : Clocked) {n : Clocked} {f : Read ℕ Bus} → moment_of c ≡ o → lag c ≡ 0
     → f ≡ read_of m at c.bus → n ≡ on c f.next → read_on (record { value = f.value; next = n }) ≡ read_now m at o
 read_low_law m at o c {n} {f} e z p q =
     ap (λ (x : Clocked). read_on (record { value = f.value; next = x })) q
-    ∙ ap (λ (x : Fetched). read_on (record { value = x.value; next = on c x.next })) p
+    ∙ ap (λ (x : Read ℕ Bus). read_on (record { value = x.value; next = on c x.next })) p
     ∙ ap (λ (x : Moment). record { value = (read_of m at c.bus).value; next = x }) (shown_all c (read_of m at c.bus).next z)
     ∙ ap (λ (x : Moment). record { value = (read_of m at x.bus).value; next = moment (read_of m at x.bus).next x.cycle x.ahead })
     (sym (shown_all c c.bus z) ∙ e)
@@ -76,13 +76,13 @@ pub read_high_law : (m : Memories) (at : ℕ) (o : Moment) (c : Clocked) {v : �
 unfolding read_at passed
 read_high_law m at o c e l p =
     ap (λ (x : ℕ). read_on (record { value = x; next = c })) p
-    ∙ ap (λ (f : Fetched). record { value = f.value; next = moment f.next (moment_of c).cycle (moment_of c).ahead }) (sym (plain_read m at (moment_of c).bus l))
+    ∙ ap (λ (f : Read ℕ Bus). record { value = f.value; next = moment f.next (moment_of c).cycle (moment_of c).ahead }) (sym (plain_read m at (moment_of c).bus l))
     ∙ ap (read_now m at) e
 
 pub fetch_high_law : (m : Memories) (at : ℕ) (o : Moment) (c : Clocked) → moment_of c ≡ next o → 32 ≤ at → moment_of c ≡ (read_at m at o).next
 unfolding read_at
 fetch_high_law m at o c e l =
-    e ∙ ap (λ (f : Fetched). moment f.next (next o).cycle (next o).ahead) (sym (plain_read m at (next o).bus l))
+    e ∙ ap (λ (f : Read ℕ Bus). moment f.next (next o).cycle (next o).ahead) (sym (plain_read m at (next o).bus l))
 
 pub write_high_law : (at v : ℕ) (o : Moment) (c : Clocked) → moment_of c ≡ next o → 32 ≤ at → moment_of c ≡ write_at at v o
 unfolding write_at

@@ -1,6 +1,7 @@
 -- The units in the middle of an instruction. 02: "Every memory read and write is now told which cycle of its instruction it stands in .. and sees timer
 -- and flags as of that cycle": one in cycle k sees, and acts on, the state after k - 1 cycles, and the other cycles pass after it.
 use Rattle.std.specs.Prelude.{ℕ, ◌+◌, ◌-◌, List, [], ◌∷◌}
+use Rattle.bits.specs.declared.Read.{Read}
 use Rattle.bus.specs.declared.Bus.{Bus}
 use Rattle.bus.specs.Access.{Memories, read_of, write_of, store_of}
 use Rattle.bus.specs.Units.{passed}
@@ -27,11 +28,7 @@ abbrev pub next : Moment → Moment
 next o = to_next o.bus o.cycle o.ahead
 
 -- a read, and the units after a write, at a moment
-pub record Read : Type 0 where
-  pub value : ℕ
-  pub next : Moment
-
-abbrev pub read_now : Memories → ℕ → Moment → Read
+abbrev pub read_now : Memories → ℕ → Moment → Read ℕ Moment
 read_now memory at o =
     record { value = (read_of memory at o.bus).value; next = moment (read_of memory at o.bus).next o.cycle o.ahead }
 
@@ -39,7 +36,7 @@ abbrev pub write_now : ℕ → ℕ → Moment → Moment
 write_now at v o = moment (write_of at v o.bus) o.cycle o.ahead
 
 -- the next access at its own moment; of a write also what it leaves in the memories
-unfoldable pub read_at : Memories → ℕ → Moment → Read
+unfoldable pub read_at : Memories → ℕ → Moment → Read ℕ Moment
 read_at memory at o = read_now memory at (next o)
 
 unfoldable pub write_at : ℕ → ℕ → Moment → Moment

@@ -7,6 +7,7 @@ ghost use Rattle.timing.specs.Digits.{listed};
 ghost use Rattle.moments.specs.Moment.{begun, next, read_now, write_now, read_at, write_at, stored_at, ended};
 ghost use Rattle.moments.specs.Clocked.{lag, moment_of, read_on};
 
+use bits::Read;
 use bus::{Bus, held};
 
 // `cycle`: how many cycles of the instruction have passed. `shown`: how many of them the units have seen; they are shown the others before an access that
@@ -17,12 +18,6 @@ pub struct Clocked {
     pub shown: u8,
     pub cycle: u8,
     pub ahead: u64,
-}
-
-#[derive(Clone, Copy)]
-pub struct Seen {
-    pub value: u8,
-    pub next: Clocked,
 }
 
 // The difference, no less than 0.
@@ -75,14 +70,14 @@ impl Clocked {
     }
 
     // A read below $20, now.
-    fn read_low(self, image: &[u8], at: u16) -> Seen
+    fn read_low(self, image: &[u8], at: u16) -> Read<u8, Clocked>
         requires { at < 32 }
         ensures { (area : List ℕ) → read_on result ≡ read_now (memories image.now area) at (moment_of self) }
     {
         let c = self.catch_up();
         let f = c.bus.read_low(image, at);
         let next = c.with(f.next);
-        Seen {
+        Read {
             value: f.value,
             next: next,
         }
@@ -100,14 +95,14 @@ impl Clocked {
     }
 
     // From $20 on an access cannot tell by how much the units lag.
-    pub fn read(self, image: &[u8], area: &[u8], at: u16) -> Seen
+    pub fn read(self, image: &[u8], area: &[u8], at: u16) -> Read<u8, Clocked>
         ensures { read_on result ≡ read_at (memories image.now area.now) at (moment_of self) }
     {
         let c = self.advance();
         if at < 32 {
             return c.read_low(image, at);
         }
-        Seen {
+        Read {
             value: held(image, area, c.bus.rame, at),
             next: c,
         }

@@ -7,11 +7,11 @@ ghost use Rattle.io.specs.Counts.{IsPrefixLen};
 use boundary::Watch;
 use counts::Cycles;
 use host::Rest;
-use machine::{Machine, Power};
+use machine::{Machine, PowerRefusal};
 use night_arguments::Number;
 use night_slices::Night;
 use night_steps::Op;
-use saved::Loaded;
+use saved::LoadRefusal;
 use std::env::Env;
 use std::fs::Files;
 
@@ -80,20 +80,20 @@ fn begin(rt: &impl Files, state: &[u8], image: &[u8], r: u32) -> Begun {
 fn switch_on(image: &[u8], r: u32) -> Begun {
     let power = cabinet::power_on(image, r);
     match power {
-        Power::On(m) => Begun::From(m),
-        Power::WrongImage => Begun::Refused(1),
-        Power::WrongStart => Begun::Refused(2),
+        Ok(m) => Begun::From(m),
+        Err(PowerRefusal::WrongImage) => Begun::Refused(1),
+        Err(PowerRefusal::WrongStart) => Begun::Refused(2),
     }
 }
 
 fn load(bytes: &[u8]) -> Begun {
     let loaded = saved::load(bytes);
     match loaded {
-        Loaded::Ready(m) => Begun::From(m),
-        Loaded::WrongLength => Begun::Refused(26),
-        Loaded::WrongVersion => Begun::Refused(27),
-        Loaded::NoMachine => Begun::Refused(28),
-        Loaded::WrongMachine => Begun::Refused(2),
+        Ok(m) => Begun::From(m),
+        Err(LoadRefusal::WrongLength) => Begun::Refused(26),
+        Err(LoadRefusal::WrongVersion) => Begun::Refused(27),
+        Err(LoadRefusal::NoMachine) => Begun::Refused(28),
+        Err(LoadRefusal::WrongMachine) => Begun::Refused(2),
     }
 }
 

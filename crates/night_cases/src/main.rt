@@ -4,7 +4,7 @@
 
 use boundary::Watch;
 use counts::Cycles;
-use machine::{Machine, Power};
+use machine::Machine;
 use night_arguments::Number;
 use night_slices::Night;
 use printing::Line;
@@ -44,7 +44,7 @@ fn show_night(
     let mut none = [0u8; 0];
     let power = cabinet::power_on(&image[..], 65536);
     match power {
-        Power::On(m) => night_slices::run_night(
+        Ok(m) => night_slices::run_night(
             rt,
             image,
             &mut area,
@@ -172,7 +172,7 @@ fn show_waking(rt: &impl Print, asked: bool, log: &mut [u8], further: &mut [u8])
     let mut session = WAKING;
     let power = cabinet::power_on(&image, 65536);
     match power {
-        Power::On(m) => {
+        Ok(m) => {
             let night = show_logged(rt, &mut image, m, &mut session, 42, 1000000100, asked, log);
             if night.left > 0 {
                 let left = night.machine;
@@ -233,7 +233,7 @@ fn show_areas(rt: &impl Print) {
     let mut area = [0x20u8; 128];
     let power = cabinet::power_on(&image, 65536);
     match power {
-        Power::On(m) => {
+        Ok(m) => {
             let night = show_area(rt, &mut image, &mut short, m, &mut session);
             show_bytes(rt, b"ram ", &image[0x80..0x8A]);
             let left = night.machine;

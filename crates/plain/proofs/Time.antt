@@ -9,7 +9,7 @@ use mathlib.Core.List.{List, [], ◌∷◌}
 use lib.ListN.{get_or}
 use Rattle.timing.proofs.Rising.{Below}
 use Rattle.bus.specs.declared.Bus.{Bus}
-use Rattle.bus.specs.declared.Fetched.{Fetched}
+use Rattle.bits.specs.declared.Read.{Read}
 use Rattle.bus.specs.Access.{Memories, memories, in_area, fetched, read_of, store_of, plain_store}
 use Rattle.bus.specs.Units.{passed}
 use Rattle.bus.proofs.Area.{outside_no_area}
@@ -73,7 +73,7 @@ plain_run n floor start area (done a) o image f h = refl
 plain_run n floor start area (reading at k) o image f h =
     let g = next_amid n floor start o.bus o.cycle o.ahead f in
     let v = get_or image at 0 in
-    ap (λ (x : Fetched). ending n (run (k x.value) (moment x.next (next o).cycle (next o).ahead) (memories image area)))
+    ap (λ (x : Read ℕ Bus). ending n (run (k x.value) (moment x.next (next o).cycle (next o).ahead) (memories image area)))
     (reads_image image area at (next o).bus (le_trans g.above h.0))
     ∙ plain_run n floor start area (k v) (next o) image g h.1
     ∙ ap (with_bus area (on_image (k v) start image)) (next_ended n floor start o.bus o.cycle o.ahead f)

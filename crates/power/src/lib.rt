@@ -4,9 +4,9 @@
 ghost use Rattle.std.specs.Prelude.{◌≡◌};
 ghost use Rattle.power.specs.Power.{told_power, power_answer};
 
-use machine::Power;
+use machine::{Machine, PowerRefusal};
 
-pub fn power_on(image: &[u8], r: u32) -> Power
+pub fn power_on(image: &[u8], r: u32) -> Result<Machine, PowerRefusal>
     ensures { told_power result ≡ power_answer image.now r }
 {
     machine::power_on(image, r)

@@ -5,7 +5,7 @@
 use arithmetic::Codes;
 use bus::peek;
 use chip::Chip;
-use machine::{Look, Machine, Moved, Power};
+use machine::{Machine, Moved};
 use opcodes::Instruction;
 use registers::Registers;
 use std::io::Read;
@@ -198,7 +198,7 @@ fn step(m: Machine, i: Instruction, image: &mut [u8]) -> Moved {
 
 // The instruction at PC, and what it left.
 fn executed(m: Machine, case: &[u8], image: &mut [u8]) -> Result<(), Difference> {
-    let Look::Runs(i) = m.look(image, b"") else {
+    let Some(i) = m.look(image, b"") else {
         take_cells(case, image);
         return Err(Difference::Undefined);
     };
@@ -291,7 +291,7 @@ fn report(rt: &impl Print, tally: Tally) {
 
 fn main(rt: HostRuntime) {
     let mut image = [BACKGROUND; 65536];
-    let Power::On(machine) = machine::power_on(&image, 65536) else {
+    let Ok(machine) = machine::power_on(&image, 65536) else {
         return;
     };
     report(&rt, replay_all(&mut rt.stdin(), machine, &mut image));

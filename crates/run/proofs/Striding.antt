@@ -1,4 +1,5 @@
 -- Plain instructions with nothing else between them: the run is the same from where they end. Assumes nothing.
+use Rattle.std.specs.Prelude.{Option}
 use Prim.Native.Nat.{ℕ, ◌+◌, ◌-◌, ◌≤◌, ◌<◌}
 use native.Mathlib.Omega.{arith}
 use mathlib.Core.Bool.{Bool, true, false, not, ◌&&◌, ◌||◌, beq, true≢false}
@@ -17,8 +18,8 @@ use Rattle.bus.specs.Access.{Memories, memories}
 use Rattle.bus.specs.Units.{passed}
 use Rattle.bus.proofs.Ranges as bus
 use Rattle.chip.specs.Act.{end}
+use Rattle.opcodes.specs.declared.Instruction.{Instruction}
 use Rattle.machine.specs.declared.Machine.{Machine}
-use Rattle.machine.specs.declared.Look.{Look}
 use Rattle.machine.specs.Machine.{on_chip, passed_of}
 use Rattle.machine.specs.Interrupts.{pending_of}
 use Rattle.machine.specs.Steps.{Stepped}
@@ -78,7 +79,7 @@ module _ (t : Terms) (s : State) where
       ∙ ap (λ (x : State). send_of t.watch (world_of x here)) (records_done t.session (memories_in here) r p.0)
       ∙ send_rests r here t.watch p.1
       ∙ act_steps r here t.watch (not_due _ (alike_due j s.machine c masked ∙ q.1)) awake
-      ∙ ap (λ (z : Look). executed_of z (world_of r here)) e.stands
+      ∙ ap (λ (z : Option Instruction). executed_of z (world_of r here)) e.stands
       ∙ ap (λ (z : Stepped). more (stepped_world z (world_of r here))) e.steps
       ∙ ap (λ (x : State). more (world_of x (with_memories l after))) (strode_more s c d j i k)
 

@@ -1,4 +1,5 @@
 -- Waiting cycles in which nothing happens: passed one by one or at once, the run is the same. Assumes nothing.
+use Rattle.std.specs.Prelude.{Option, None, Some}
 use Prim.Native.Nat.{ℕ, suc, ◌+◌, ◌-◌, ◌≤◌, ◌<◌}
 use native.Mathlib.Omega.{arith}
 use mathlib.Core.Bool.{Bool, true, false, not, ◌&&◌, ◌||◌, cond, true≢false, false≢true}
@@ -21,8 +22,6 @@ use Rattle.session.specs.Session.{time_at, due_at}
 use Rattle.machine.specs.declared.Machine.{Machine}
 use Rattle.machine.specs.declared.Cause.{Cause}
 use Rattle.machine.specs.declared.Cause.TheVariants.{Nmi, Irq1, Icf, Ocf, Tof, Serial}
-use Rattle.machine.specs.declared.Pending.{Pending}
-use Rattle.machine.specs.declared.Pending.TheVariants.{Nothing, Due}
 use Rattle.machine.specs.Machine.{passed_of}
 use Rattle.machine.specs.Interrupts.{pending_of}
 use Rattle.boundary.specs.declared.State.{State}
@@ -40,8 +39,8 @@ accepts nmi i now ocf tof = nmi || (not i && (now || (ocf || tof)))
 
 flat : (k0 k1 k2 k3 k4 k5 : Cause) (a i b c d e f : Bool)
     → is_due
-    (cond a (Due k0) (cond (not i && b) (Due k1) (cond (not i && c) (Due k2)
-    (cond (not i && d) (Due k3) (cond (not i && e) (Due k4) (cond (not i && f) (Due k5) Nothing))))))
+    (cond a (Some k0) (cond (not i && b) (Some k1) (cond (not i && c) (Some k2)
+    (cond (not i && d) (Some k3) (cond (not i && e) (Some k4) (cond (not i && f) (Some k5) None))))))
     ≡ accepts a i ((b || c) || f) d e
 flat k0 k1 k2 k3 k4 k5 true i b c d e f = refl
 flat k0 k1 k2 k3 k4 k5 false true b c d e f = refl
@@ -91,9 +90,9 @@ module _ (session : List ℕ) (count at : ℕ) where
   unfolding due_at
   a_record h j = ap (λ (t : Bool). t && leb (time_at session at) (count + j)) (lt-ltb at (length session) h)
 
-pub not_due : (p : Pending) → is_due p ≡ false → p ≡ Nothing
-not_due Nothing e = refl
-not_due (Due k) e = absurd (true≢false e)
+pub not_due : (p : Option Cause) → is_due p ≡ false → p ≡ None
+not_due None e = refl
+not_due (Some k) e = absurd (true≢false e)
 
 -- within a wait, as the code tells it
 pub waits : (s : State) {idle b : Bool} → idle ≡ idles s.machine.chip.registers → (s.inside && idle) ≡ b → (s.inside && idles s.machine.chip.registers) ≡ b

@@ -1,14 +1,13 @@
 -- Where a leap ends, what the functions that look for its end promise, and the state after plain instructions: from each the run goes on
 -- the same.
-use Rattle.std.specs.Prelude.{ℕ, ◌+◌, ◌≤◌, ◌<◌, Bool, true, false, ◌||◌, ◌&&◌, List, ◌⊎◌, ◌≡◌, leb, eqb}
+use Rattle.std.specs.Prelude.{ℕ, ◌+◌, ◌≤◌, ◌<◌, Bool, true, false, ◌||◌, ◌&&◌, List, ◌⊎◌, ◌≡◌, leb, eqb, Option, None, Some}
 use Rattle.session.specs.Session.{due_at}
 use Rattle.serial.specs.Serial.{wants_to_send, ticks_serial}
 use Rattle.bus.specs.Access.{memories}
 use Rattle.bus.specs.Units.{passed}
 use Rattle.registers.specs.declared.Registers.{Registers}
 use Rattle.registers.specs.Registers.{idles}
-use Rattle.machine.specs.declared.Pending.{Pending}
-use Rattle.machine.specs.declared.Pending.TheVariants.{Nothing, Due}
+use Rattle.machine.specs.declared.Cause.{Cause}
 use Rattle.machine.specs.Machine.{on_chip, passed_of}
 use Rattle.machine.specs.Interrupts.{pending_of}
 use Rattle.boundary.specs.declared.State.{State}
@@ -16,9 +15,9 @@ use Rattle.boundary.specs.World.{Lent, with_memories, Terms, world_of, by_instru
 use Rattle.boundary.specs.Boundary.{due, sends_of, run_of}
 use Rattle.boundary.specs.Counts.{Fine}
 
-abbrev pub is_due : Pending → Bool
-is_due Nothing = false
-is_due (Due cause) = true
+abbrev pub is_due : Option Cause → Bool
+is_due None = false
+is_due (Some cause) = true
 
 -- the boundary at which a leap ends: the limit is reached, a record is due, a byte is to be sent or an interrupt is accepted
 abbrev pub ends_leap : Terms → State → Bool

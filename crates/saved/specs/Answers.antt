@@ -1,36 +1,34 @@
 -- What saving and loading answer, for all inputs.
-use Rattle.std.specs.Prelude.{ℕ, ◌%◌, Bool, cond, not, ◌&&◌, List, eqb, leb, length}
-use Rattle.std.proofs.Math.Option.{Option, none, some}
+use Rattle.std.specs.Prelude.{ℕ, ◌%◌, Bool, cond, not, ◌&&◌, List, eqb, leb, length, Option, None, Some, Result, Ok, Err}
 use Rattle.bits.specs.Bits.{bit}
 use Rattle.machine.specs.declared.Machine.{Machine}
 use Rattle.machine.specs.Machine.{ranges_of}
 use Rattle.asking.specs.Asking.{Given, gives, replies}
-use Rattle.saved.specs.declared.Saved.{Saved}
-use Rattle.saved.specs.declared.Saved.TheVariants.{Done, WrongLength}
-use Rattle.saved.specs.declared.Loaded.{Loaded}
-use Rattle.saved.specs.declared.Loaded.TheVariants as loaded
+use Rattle.saved.specs.declared.WrongLength.{WrongLength}
+use Rattle.saved.specs.declared.LoadRefusal.{LoadRefusal}
+use Rattle.saved.specs.declared.LoadRefusal.TheVariants as refusal
 use Rattle.saved.specs.Layout.{saved_of, byte_in, word_at, machine_in}
 
 -- saving: 26 where it refuses
-abbrev pub told_saved : Saved → Option ℕ
-told_saved Done = none
-told_saved WrongLength = some 26
+abbrev pub told_saved : Result (Unit {0}) WrongLength → Option ℕ
+told_saved (Ok _) = None
+told_saved (Err _) = Some 26
 
 -- saving refuses "a wrong length"
 abbrev pub save_of : List ℕ → Option ℕ
-save_of bytes = cond (eqb (length bytes) 42) none (some 26)
+save_of bytes = cond (eqb (length bytes) 42) None (Some 26)
 
 -- the lent bytes afterwards: the saved machine, or as they were
 abbrev pub left_of : Machine → List ℕ → List ℕ
 left_of m bytes = cond (eqb (length bytes) 42) (saved_of m) bytes
 
 -- loading: a machine, or 26 wrong length, 27 wrong version, 28 bytes that stand for no machine, 2 (01's table) outside its ranges
-abbrev pub told_loaded : Loaded → Given Machine
-told_loaded (loaded.Ready m) = gives m
-told_loaded loaded.WrongLength = replies 26
-told_loaded loaded.WrongVersion = replies 27
-told_loaded loaded.NoMachine = replies 28
-told_loaded loaded.WrongMachine = replies 2
+abbrev pub told_loaded : Result Machine LoadRefusal → Given Machine
+told_loaded (Ok m) = gives m
+told_loaded (Err refusal.WrongLength) = replies 26
+told_loaded (Err refusal.WrongVersion) = replies 27
+told_loaded (Err refusal.NoMachine) = replies 28
+told_loaded (Err refusal.WrongMachine) = replies 2
 
 -- "bytes that stand for no machine (a bool above 1, an arm bit that is none)": those that do not pass this
 unfoldable pub stands_of : List ℕ → Bool

@@ -18,17 +18,13 @@ use registers::Registers;
 use serial::Serial;
 use timer::{Timer, TimerRegister};
 
-// What saving answers.
+// The lent bytes are not as many as a saved machine.
 #[derive(Clone, Copy)]
-pub enum Saved {
-    Done,
-    WrongLength,
-}
+pub struct WrongLength;
 
-// What loading answers.
+// Why loading gives no machine.
 #[derive(Clone, Copy)]
-pub enum Loaded {
-    Ready(Machine),
+pub enum LoadRefusal {
     WrongLength,
     WrongVersion,
     NoMachine,
@@ -181,19 +177,19 @@ fn saved_byte(m: Machine, k: usize) -> u8
 }
 
 // The machine as 42 bytes, or a refusal of lent bytes that are not 42, which leaves them.
-pub fn save(m: Machine, bytes: &mut [u8]) -> Saved
+pub fn save(m: Machine, bytes: &mut [u8]) -> Result<(), WrongLength>
     ensures fact_1 { told_saved result ≡ save_of bytes.old }
     ensures fact_2 { bytes.new ≡ left_of m bytes.old }
 {
     if bytes.len() != 42 {
-        return Saved::WrongLength;
+        return Err(WrongLength);
     }
     let mut k = 0;
     while k < 42 {
         bytes[k] = saved_byte(m, k);
         k = k + 1;
     }
-    Saved::Done
+    Ok(())
 }
 
 // Byte k, 0 past the end.
@@ -364,21 +360,21 @@ fn in_ranges(bytes: &[u8], m: Machine) -> bool
 }
 
 // The machine that was saved as these bytes, or a refusal.
-pub fn load(bytes: &[u8]) -> Loaded
+pub fn load(bytes: &[u8]) -> Result<Machine, LoadRefusal>
     ensures { told_loaded result ≡ load_of bytes.now }
 {
     if bytes.len() != 42 {
-        return Loaded::WrongLength;
+        return Err(LoadRefusal::WrongLength);
     }
     if word_at(bytes, 0) != 1 {
-        return Loaded::WrongVersion;
+        return Err(LoadRefusal::WrongVersion);
     }
     if !stands(bytes) {
-        return Loaded::NoMachine;
+        return Err(LoadRefusal::NoMachine);
     }
     let m = machine_in(bytes);
     if !in_ranges(bytes, m) {
-        return Loaded::WrongMachine;
+        return Err(LoadRefusal::WrongMachine);
     }
-    Loaded::Ready(m)
+    Ok(m)
 }

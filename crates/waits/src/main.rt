@@ -6,7 +6,6 @@
 ghost use Rattle.std.specs.Prelude.{◌≤◌};
 
 use cabinet::Ran;
-use machine::Power;
 
 // Where the code and the interrupts' handler go.
 const CODE: usize = 0x0100;
@@ -69,7 +68,7 @@ fn show(rt: &impl Print, r: Ran, first: u8, second: u8) {
 fn single(rt: &impl Print, code: &[u8], handler: &[u8], session: &[u8], n: u32) {
     let mut image = rom(code, handler);
     let mut output = [0u8; 1];
-    let Power::On(m) = cabinet::power_on(&image, 65536) else {
+    let Ok(m) = cabinet::power_on(&image, 65536) else {
         return;
     };
     let mut area = [0u8; 128];
@@ -82,7 +81,7 @@ fn single(rt: &impl Print, code: &[u8], handler: &[u8], session: &[u8], n: u32) 
 fn leaping(rt: &impl Print, code: &[u8], handler: &[u8], session: &[u8], n: u32) {
     let mut image = rom(code, handler);
     let mut output = [0u8; 1];
-    let Power::On(m) = cabinet::power_on(&image, 65536) else {
+    let Ok(m) = cabinet::power_on(&image, 65536) else {
         return;
     };
     let mut area = [0u8; 128];

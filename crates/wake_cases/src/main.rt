@@ -7,7 +7,7 @@ use bits::Flag;
 use boundary::Watch;
 use cabinet::Ran;
 use counts::Cycles;
-use machine::{Machine, Power};
+use machine::Machine;
 
 // What a case changes of the machine after power-on: the causes that hold (bit k for cause k), I, waiting, SP, and whether a byte is to be sent.
 #[derive(Clone, Copy)]
@@ -205,7 +205,7 @@ fn single(
     log: &mut [u8],
 ) {
     let mut image = rom(opcode);
-    let Power::On(m) = cabinet::power_on(&image, 65536) else {
+    let Ok(m) = cabinet::power_on(&image, 65536) else {
         return;
     };
     let start = started(m, s);
@@ -228,7 +228,7 @@ fn leaping(
     log: &mut [u8],
 ) {
     let mut image = rom(opcode);
-    let Power::On(m) = cabinet::power_on(&image, 65536) else {
+    let Ok(m) = cabinet::power_on(&image, 65536) else {
         return;
     };
     let start = started(m, s);

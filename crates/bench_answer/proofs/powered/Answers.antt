@@ -13,17 +13,17 @@ text-alone : (r : Ran) (l : Lent) → text_of (answered r nothing) ≡ text_of (
 unfolding text_of stop_text
 text-alone r l = refl
 
-pub returns-in-WrongImage : goal.returns-in-WrongImage
+pub returns-in-Err-WrongImage : goal.returns-in-Err-WrongImage
 unfolding powered_text
-returns-in-WrongImage c = rw (← c.power_on-power.ensures, c.in-WrongImage.is) c.refused.ensures
+returns-in-Err-WrongImage c = rw (← c.power_on-power.ensures, c.in-Err-WrongImage.is) c.refused.ensures
 
-pub returns-in-WrongStart : goal.returns-in-WrongStart
+pub returns-in-Err-WrongStart : goal.returns-in-Err-WrongStart
 unfolding powered_text
-returns-in-WrongStart c = rw (← c.power_on-power.ensures, c.in-WrongStart.is) c.refused-in-WrongStart.ensures
+returns-in-Err-WrongStart c = rw (← c.power_on-power.ensures, c.in-Err-WrongStart.is) c.refused-in-Err-WrongStart.ensures
 
-pub returns-in-On : goal.returns-in-On
+pub returns-in-Ok : goal.returns-in-Ok
 unfolding powered_text
-returns-in-On c = rw (← c.power_on-power.ensures, c.in-On.is)
+returns-in-Ok c = rw (← c.power_on-power.ensures, c.in-Ok.is)
     (c.report.ensures
     ∙ ap (λ t. puts_of empty_line t)
     (text-alone c.run_leaping-leapt.result.ran (lent c.run_leaping-leapt.new.image c.run_leaping-leapt.new.area c.run_leaping-leapt.new.output)

@@ -12,42 +12,42 @@ returns-then-res-size c = let a = c.args in
     let b = buffers a.machine.now (lending a.image.now a.area.now a.output.now a.log.now) a.res.now in
     run_short a.leaping t b c.record_size-size.ensures c.if-res-size.true
 
-pub returns-in-Ready : goal.returns-in-Ready
-returns-in-Ready c = let a = c.args in
+pub returns-in-Ok : goal.returns-in-Ok
+returns-in-Ok c = let a = c.args in
     let t = watching a.session.now a.n a.watch in
     let b = buffers a.machine.now (lending a.image.now a.area.now a.output.now a.log.now) a.res.now in
     let g = c.load-loaded.ensures in
-    let e = c.in-Ready.is in
+    let e = c.in-Ok.is in
     let run = c.watch_either-e in
     ran_left a.leaping t b _ run.result _ (sym g ∙ ap told_loaded e) run.ensures
     c.save.ensures.fact_2 c.counted-counted.ensures c.report.ensures
     ∙ on_loaded a.leaping t b c.record_size-size.ensures c.if-res-size.false g _ e
 
-pub returns-in-WrongLength : goal.returns-in-WrongLength
-returns-in-WrongLength c = let a = c.args in
+pub returns-in-Err-WrongLength : goal.returns-in-Err-WrongLength
+returns-in-Err-WrongLength c = let a = c.args in
     let t = watching a.session.now a.n a.watch in
     let b = buffers a.machine.now (lending a.image.now a.area.now a.output.now a.log.now) a.res.now in
     on_loaded a.leaping t b c.record_size-size.ensures c.if-res-size.false
-    c.load-loaded.ensures _ c.in-WrongLength.is
+    c.load-loaded.ensures _ c.in-Err-WrongLength.is
 
-pub returns-in-WrongVersion : goal.returns-in-WrongVersion
-returns-in-WrongVersion c = let a = c.args in
+pub returns-in-Err-WrongVersion : goal.returns-in-Err-WrongVersion
+returns-in-Err-WrongVersion c = let a = c.args in
     let t = watching a.session.now a.n a.watch in
     let b = buffers a.machine.now (lending a.image.now a.area.now a.output.now a.log.now) a.res.now in
     on_loaded a.leaping t b c.record_size-size.ensures c.if-res-size.false
-    c.load-loaded.ensures _ c.in-WrongVersion.is
+    c.load-loaded.ensures _ c.in-Err-WrongVersion.is
 
-pub returns-in-NoMachine : goal.returns-in-NoMachine
-returns-in-NoMachine c = let a = c.args in
+pub returns-in-Err-NoMachine : goal.returns-in-Err-NoMachine
+returns-in-Err-NoMachine c = let a = c.args in
     let t = watching a.session.now a.n a.watch in
     let b = buffers a.machine.now (lending a.image.now a.area.now a.output.now a.log.now) a.res.now in
     on_loaded a.leaping t b c.record_size-size.ensures c.if-res-size.false
-    c.load-loaded.ensures _ c.in-NoMachine.is
+    c.load-loaded.ensures _ c.in-Err-NoMachine.is
 
-pub returns-in-WrongMachine : goal.returns-in-WrongMachine
-returns-in-WrongMachine c = let a = c.args in
+pub returns-in-Err-WrongMachine : goal.returns-in-Err-WrongMachine
+returns-in-Err-WrongMachine c = let a = c.args in
     let t = watching a.session.now a.n a.watch in
     let b = buffers a.machine.now (lending a.image.now a.area.now a.output.now a.log.now) a.res.now in
     refused_2 a.leaping t b c.unfit-number.ensures c.refuse.ensures
     ∙ on_loaded a.leaping t b c.record_size-size.ensures c.if-res-size.false
-    c.load-loaded.ensures _ c.in-WrongMachine.is
+    c.load-loaded.ensures _ c.in-Err-WrongMachine.is

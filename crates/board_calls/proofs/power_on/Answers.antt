@@ -7,18 +7,18 @@ pub returns-then-machine-ne42 : goal.returns-then-machine-ne42
 returns-then-machine-ne42 c = let a = c.args in
     power_short a.image.now a.r a.machine.now c.if-machine-ne42.true
 
-pub returns-in-On : goal.returns-in-On
-returns-in-On c = let a = c.args in
+pub returns-in-Ok : goal.returns-in-Ok
+returns-in-Ok c = let a = c.args in
     let long = c.if-machine-ne42.false in
     power_saved a.image.now a.r a.machine.now _ long c.save.ensures.fact_2
-    ∙ powered a.image.now a.r a.machine.now _ long c.power_on-power.ensures c.in-On.is
+    ∙ powered a.image.now a.r a.machine.now _ long c.power_on-power.ensures c.in-Ok.is
 
-pub returns-in-WrongImage : goal.returns-in-WrongImage
-returns-in-WrongImage c = let a = c.args in
+pub returns-in-Err-WrongImage : goal.returns-in-Err-WrongImage
+returns-in-Err-WrongImage c = let a = c.args in
     powered a.image.now a.r a.machine.now _
-    c.if-machine-ne42.false c.power_on-power.ensures c.in-WrongImage.is
+    c.if-machine-ne42.false c.power_on-power.ensures c.in-Err-WrongImage.is
 
-pub returns-in-WrongStart : goal.returns-in-WrongStart
-returns-in-WrongStart c = let a = c.args in
+pub returns-in-Err-WrongStart : goal.returns-in-Err-WrongStart
+returns-in-Err-WrongStart c = let a = c.args in
     powered a.image.now a.r a.machine.now _
-    c.if-machine-ne42.false c.power_on-power.ensures c.in-WrongStart.is
+    c.if-machine-ne42.false c.power_on-power.ensures c.in-Err-WrongStart.is

@@ -1,7 +1,9 @@
 -- `saved::timer_byte` meets its contract: each arm is its place of the list. Assumes nothing.
+use Rattle.std.specs.Prelude.{ℕ}
 use Rattle.std.proofs.Common.{arith}
 use mathlib.Core.Path.{◌≡◌, ap}
-use Rattle.timer.specs.declared.TimerRead.{TimerRead}
+use Rattle.bits.specs.declared.Read.{Read}
+use Rattle.timer.specs.declared.Timer.{Timer}
 use Rattle.timer.specs.Timer.{read_timer}
 use Rattle.saved.proofs.Places.{there}
 use Rattle.saved.specs.Layout.{saved_of}
@@ -9,7 +11,7 @@ use Rattle.saved.proofs.timer_byte.Goals as goal
 
 pub returns-in-21 : goal.returns-in-21
 unfolding saved_of read_timer
-returns-in-21 c = there c.args.m c.in-21.is (ap (λ (r : TimerRead). r.value) c.read.ensures)
+returns-in-21 c = there c.args.m c.in-21.is (ap (λ (r : Read ℕ Timer). r.value) c.read.ensures)
 
 pub returns-in-22 : goal.returns-in-22
 unfolding saved_of read_timer

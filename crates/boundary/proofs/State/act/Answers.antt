@@ -10,22 +10,22 @@ use Rattle.boundary.proofs.State.act.Goals as goal
 pub returns-then-idles : goal.returns-then-idles
 returns-then-idles c = let a = c.args in
     let watch : Watch = record { log = a.logs; since = a.since } in
-    let none = sym c.pending-p.ensures ∙ c.in-Nothing.is in
+    let none = sym c.pending-p.ensures ∙ c.in-None.is in
     let idle = sym c.idles.ensures ∙ c.if-idles.true in
     λ o.
     let l = lending a.image.now a.area.now o a.log.now in
     ap (λ (x : State). more (world_of x l)) c.wait.ensures ∙ sym (act_waits a.self l watch none idle)
 
-pub returns-in-Due : goal.returns-in-Due
-returns-in-Due c = let a = c.args in
+pub returns-in-Some : goal.returns-in-Some
+returns-in-Some c = let a = c.args in
     let watch : Watch = record { log = a.logs; since = a.since } in
-    let due = sym c.pending-p.ensures ∙ c.in-Due.is in
+    let due = sym c.pending-p.ensures ∙ c.in-Some.is in
     λ o. c.accept.ensures o ∙ sym (act_accepts a.self (lending a.image.now a.area.now o a.log.now) watch due)
 
 pub returns-else-idles : goal.returns-else-idles
 returns-else-idles c = let a = c.args in
     let watch : Watch = record { log = a.logs; since = a.since } in
-    let none = sym c.pending-p.ensures ∙ c.in-Nothing.is in
+    let none = sym c.pending-p.ensures ∙ c.in-None.is in
     let busy = sym c.idles.ensures ∙ c.if-idles.false in
     λ o.
     let l = lending a.image.now a.area.now o a.log.now in

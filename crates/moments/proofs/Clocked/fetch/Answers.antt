@@ -1,13 +1,15 @@
+use Rattle.std.specs.Prelude.{ℕ}
+use Rattle.bits.specs.declared.Read.{Read}
 use mathlib.Core.Path.{ap, ◌∙◌}
 use Rattle.bus.specs.Access.{memories}
-use Rattle.moments.specs.Moment.{Moment, Read, read_now, read_at}
+use Rattle.moments.specs.Moment.{Moment, read_now, read_at}
 use Rattle.moments.proofs.Laws.{fetch_high_law}
 use Rattle.moments.proofs.Clocked.fetch.Goals as goal
 
 pub returns-then-at-lt32 : goal.returns-then-at-lt32
 unfolding read_at
 returns-then-at-lt32 c = λ area. let a = c.args in
-    ap (λ (r : Read). r.next) (c.read_low-f.ensures area)
+    ap (λ (r : Read ℕ Moment). r.next) (c.read_low-f.ensures area)
     ∙ ap (λ (o : Moment). (read_now (memories a.image.now area) a.at o).next) c.advance-c.ensures
 
 pub returns : goal.returns
