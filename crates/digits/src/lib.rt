@@ -5,6 +5,7 @@ ghost use Rattle.std.specs.Prelude.{◌≡◌, ◌≤◌};
 ghost use Rattle.digits.specs.Digits.{with_digit, number_of};
 
 // A number with a digit more.
+#[tactic(auto, using(std::proofs::lemmas::Grind::common_steps), unfolding(crate::specs::Digits::with_digit))]
 fn with_digit(base: u32, v: u32, c: u8) -> Option<u32>
     requires { (2 ≤ base) × (base ≤ 36) }
     ensures { result ≡ with_digit base v c }
