@@ -4,8 +4,10 @@
 use bits::Flag;
 use boundary::Watch;
 use cabinet::{Leapt, Ran};
+use cases::{hexadecimal, install, number};
 use counts::Cycles;
 use machine::Machine;
+use printing::Line;
 
 // What a case changes of the machine after power-on: SP, bits 6 and 7 of $14, R, I, waiting, a pending NMI, and whether a byte is to be sent when
 // ten cycles have passed.
@@ -51,14 +53,6 @@ const TURNS: [u8; 12] = *b"\x73\x00\x14\x7C\x00\xF0\x73\x00\x14\x7C\x00\xF1";
 const STRAIGHT: [u8; 23] =
     *b"\x8E\x01\x00\xCE\x12\x34\x3C\x38\xDF\x7F\xDC\xFF\xDD\x81\x7C\x00\x81\xBD\x03\x16\x20\xFE\x39";
 
-fn install(memory: &mut [u8], at: usize, code: &[u8]) {
-    if at <= memory.len() {
-        if code.len() <= memory.len() - at {
-            numbers::copy(code, &mut memory[at..]);
-        }
-    }
-}
-
 // The image: a case's code at $0300, CLR $0014 twice and a BRA to itself in the RAM, RTI for NMI, CLR $0014 and RTI for IRQ1; else 41, which is
 // undefined.
 fn rom(code: &[u8]) -> [u8; 65536] {
@@ -82,73 +76,48 @@ fn outside() -> [u8; 129] {
     area
 }
 
-fn with_bus(m: Machine, s: Start) -> Machine {
-    let mut next = m;
-    let mut chip = m.chip;
-    let mut bus = m.chip.bus;
-    let mut serial = m.chip.bus.serial;
-    let tdre = Flag {
+fn with_bus(mut m: Machine, s: Start) -> Machine {
+    let bus = &mut m.chip.bus;
+    bus.serial.te = s.sending;
+    bus.serial.tdre = Flag {
         set: !s.sending,
         armed: false,
     };
-    serial.te = s.sending;
-    serial.tdre = tdre;
-    serial.busy = 10;
-    bus.serial = serial;
+    bus.serial.busy = 10;
     bus.rame = s.rame;
     bus.standby = s.standby;
     bus.r = s.r;
-    chip.bus = bus;
-    next.chip = chip;
-    next
+    m
 }
 
-fn with_registers(m: Machine, s: Start) -> Machine {
-    let mut next = m;
-    let mut chip = m.chip;
-    let mut r = m.chip.registers;
-    r.a = 0xA1;
-    r.b = 0xB2;
-    r.x = 0x1122;
-    r.sp = s.sp;
-    r.codes.i = s.masked;
-    r.waiting = s.waiting;
-    chip.registers = r;
-    next.chip = chip;
-    next.nmi = s.nmi;
-    next
+fn with_registers(mut m: Machine, s: Start) -> Machine {
+    let registers = &mut m.chip.registers;
+    registers.a = 0xA1;
+    registers.b = 0xB2;
+    registers.x = 0x1122;
+    registers.sp = s.sp;
+    registers.codes.i = s.masked;
+    registers.waiting = s.waiting;
+    m.nmi = s.nmi;
+    m
 }
 
 fn started(m: Machine, s: Start) -> Machine {
     with_registers(with_bus(m, s), s)
 }
 
-fn number(rt: &impl Print, name: &[u8], n: u64) {
-    host::show(rt, name);
-    host::show_decimal(rt, n);
-}
-
-fn hex(rt: &impl Print, name: &[u8], n: u64, digits: usize) {
-    host::show(rt, name);
-    host::show_hexadecimal(rt, n, digits);
-}
-
 fn show_counts(rt: &impl Print, r: Ran) {
-    let reply = r.reply;
-    number(rt, b" stop ", reply.number() as u64);
-    number(rt, b" cycles ", r.cycles.0 as u64);
-    number(rt, b" instr ", r.instructions.0 as u64);
-    number(rt, b" entries ", r.entries.0 as u64);
-    number(rt, b" used ", r.used.0 as u64);
-    number(rt, b" sent ", r.sent.0 as u64);
+    number(rt, b" stop ", r.reply.number() as u64);
+    let counts = lines::run_numbers(r.cycles, r.instructions, r.entries, r.used, r.sent);
+    lines::counts(Line::empty(), counts).print(rt);
 }
 
 fn show_machine(rt: &impl Print, m: Machine) {
     let c = m.chip.registers;
-    hex(rt, b" pc ", c.pc as u64, 4);
-    hex(rt, b" a ", c.a as u64, 2);
-    hex(rt, b" sp ", c.sp as u64, 4);
-    hex(rt, b" cc ", c.codes.to_byte() as u64, 2);
+    hexadecimal(rt, b" pc ", c.pc as u64, 4);
+    hexadecimal(rt, b" a ", c.a as u64, 2);
+    hexadecimal(rt, b" sp ", c.sp as u64, 4);
+    hexadecimal(rt, b" cc ", c.codes.to_byte() as u64, 2);
     number(rt, b" waiting ", c.waiting as u64);
     number(rt, b" nmi ", m.nmi as u64);
     number(rt, b" rame ", m.chip.bus.rame as u64);
@@ -157,23 +126,15 @@ fn show_machine(rt: &impl Print, m: Machine) {
 
 fn show_change(rt: &impl Print, name: &[u8], at: u64, before: u8, after: u8) {
     if before != after {
-        hex(rt, name, at, 4);
-        hex(rt, b"] ", after as u64, 2);
+        hexadecimal(rt, name, at, 4);
+        hexadecimal(rt, b"] ", after as u64, 2);
     }
 }
 
 // The bytes that are not as they were; `at` is the address of the first.
 fn show_changes(rt: &impl Print, name: &[u8], at: u64, before: &[u8], after: &[u8]) {
-    for k in 0..after.len() {
-        if k < before.len() {
-            show_change(
-                rt,
-                name,
-                std::num::wrapping_add_u64(at, k as u64),
-                before[k],
-                after[k],
-            );
-        }
+    for (k, (was, is)) in before.iter().zip(after).enumerate() {
+        show_change(rt, name, at.wrapping_add(k as u64), *was, *is);
     }
 }
 
@@ -187,16 +148,12 @@ fn show(
     output: &[u8],
     log: &[u8],
 ) {
-    let r = leapt.ran;
-    let m = r.machine;
-    let before = rom(code);
-    let beside = outside();
-    show_counts(rt, r);
-    show_machine(rt, m);
-    show_changes(rt, b" [", 0, &before, image);
-    show_changes(rt, b" area[", 0x80, &beside, area);
+    show_counts(rt, leapt.ran);
+    show_machine(rt, leapt.ran.machine);
+    show_changes(rt, b" [", 0, &rom(code), image);
+    show_changes(rt, b" area[", 0x80, &outside(), area);
     show_changes(rt, b" output[", 0, b"\xEE", output);
-    show_changes(rt, b" log[", 0, b"\xEE\xEE\xEE\xEE\xEE\xEE\xEE\xEE", log);
+    show_changes(rt, b" log[", 0, &[0xEE; 8], log);
 }
 
 fn show_leaps(rt: &impl Print, leaping: bool, leapt: Leapt) {
@@ -223,15 +180,7 @@ fn run(
         since: Cycles(0),
     };
     let leapt = cabinet::watch_either(leaping, image, area, m, session, l.n, watch, output, log);
-    show(
-        rt,
-        leapt,
-        code,
-        &image[..],
-        &area[..],
-        &output[..],
-        &log[..],
-    );
+    show(rt, leapt, code, image, area, output, log);
     show_leaps(rt, leaping, leapt);
 }
 
@@ -277,9 +226,9 @@ fn both(rt: &impl Print, title: &[u8], code: &[u8], session: &[u8], s: Start, l:
 fn with_bit(rame: bool, r: u32) -> Start {
     Start {
         sp: 0x00F0,
-        rame: rame,
+        rame,
         standby: !rame,
-        r: r,
+        r,
         masked: true,
         waiting: false,
         nmi: false,
@@ -294,7 +243,7 @@ fn whole(n: u32) -> Lends {
         output: 1,
         log: 0,
         logs: false,
-        n: n,
+        n,
     }
 }
 
@@ -329,10 +278,14 @@ fn storing(rt: &impl Print, title: &[u8], r: u32) {
 
 fn writes(rt: &impl Print) {
     let on = with_bit(true, 65536);
-    let mut sending = with_bit(false, 65536);
-    sending.sending = true;
-    let mut full = whole(20);
-    full.output = 0;
+    let sending = Start {
+        sending: true,
+        ..with_bit(false, 65536)
+    };
+    let full = Lends {
+        output: 0,
+        ..whole(20)
+    };
     both(rt, b"9, both written", &STORES, b"", sending, full);
     storing(rt, b"0, both written", 65536);
     storing(rt, b"R F1", 0xF1);
@@ -341,10 +294,11 @@ fn writes(rt: &impl Print) {
 }
 
 fn entering(sp: u16, r: u32) -> Start {
-    let mut s = with_bit(false, r);
-    s.sp = sp;
-    s.nmi = true;
-    s
+    Start {
+        sp,
+        nmi: true,
+        ..with_bit(false, r)
+    }
 }
 
 fn entry(rt: &impl Print, title: &[u8], sp: u16, r: u32) {
@@ -374,10 +328,14 @@ const RESET: [u8; 8] = *b"\x06\x00\x07\x00\x64\x00\x00\x00";
 
 fn waits(rt: &impl Print) {
     let off = with_bit(false, 65536);
-    let mut waiting = off;
-    waiting.waiting = true;
-    let mut open = with_bit(true, 65536);
-    open.masked = false;
+    let waiting = Start {
+        waiting: true,
+        ..off
+    };
+    let open = Start {
+        masked: false,
+        ..with_bit(true, 65536)
+    };
     both(rt, b"a wait", &IDLE, &NMI, off, whole(130));
     both(
         rt,
@@ -408,10 +366,12 @@ fn waits(rt: &impl Print) {
 
 // The case `NMI` with the log asked for.
 fn logged(rt: &impl Print, title: &[u8], area: isize, log: isize) {
-    let mut l = whole(30);
-    l.area = area;
-    l.log = log;
-    l.logs = true;
+    let l = Lends {
+        area,
+        log,
+        logs: true,
+        ..whole(30)
+    };
     both(rt, title, &STAY, b"", entering(0x00F0, 65536), l);
 }
 
@@ -443,12 +403,9 @@ fn bad_sessions(rt: &impl Print, l: Lends) {
 
 // An area of so many bytes, alone and with each other refusal.
 fn refusals(rt: &impl Print, title: &[u8], area: isize) {
-    let mut l = whole(30);
-    l.area = area;
-    let mut short = l;
-    short.image = 65535;
-    let mut long = l;
-    long.n = 1000000001;
+    let l = Lends { area, ..whole(30) };
+    let short = Lends { image: 65535, ..l };
+    let long = Lends { n: 1000000001, ..l };
     let wrong = entering(0x00F0, 65537);
     host::show(rt, title);
     host::show(rt, b"\n");

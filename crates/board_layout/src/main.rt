@@ -20,14 +20,10 @@ fn tell(rt: &impl Print, name: &[u8], n: usize) {
 
 // Where a byte stands first, or the end.
 fn place_of(v: u8, bytes: &[u8]) -> usize {
-    let mut at = 0;
-    while at < bytes.len() {
-        if bytes[at] == v {
-            return at;
-        }
-        at = at + 1;
-    }
-    at
+    bytes
+        .iter()
+        .position(|byte| *byte == v)
+        .unwrap_or(bytes.len())
 }
 
 // A run's result: the leaping run's, whose first bytes are the single run's.
@@ -111,7 +107,7 @@ fn tell_row(rt: &impl Print, first: &[u8], second: &[u8]) {
 
 // Whether a set of bits asks for the log: 1, else 0.
 fn asks(bits: u32) -> u8 {
-    if board_numbers::asks_log(bits) { 1 } else { 0 }
+    board_numbers::asks_log(bits) as u8
 }
 
 fn main(rt: HostRuntime) {

@@ -2,7 +2,7 @@
 // answer says all that is not as it was before the row. docs/CASES.md explains the rows.
 #![tactic(auto)]
 
-ghost use Rattle.std.specs.Prelude.{◌<◌, ◌≤◌, length};
+ghost use Rattle.std.specs.Prelude.{◌≤◌};
 
 use arithmetic::Codes;
 use bits::Flag;
@@ -111,14 +111,13 @@ fn start(r: u32) -> Machine {
         serial: start_serial(),
         rame: true,
         standby: false,
-        r: r,
-    };
-    let chip = Chip {
-        registers: start_registers(),
-        bus: bus,
+        r,
     };
     Machine {
-        chip: chip,
+        chip: Chip {
+            registers: start_registers(),
+            bus,
+        },
         irq1: true,
         nmi: false,
     }
@@ -126,12 +125,12 @@ fn start(r: u32) -> Machine {
 
 // Byte k of a memory before a row.
 fn pattern(first: u8, k: usize) -> u8 {
-    ((first as usize + k % 256) % 256) as u8
+    first.wrapping_add((k % 256) as u8)
 }
 
 fn fill(memory: &mut [u8], first: u8) {
-    for k in 0..memory.len() {
-        memory[k] = pattern(first, k);
+    for (k, cell) in memory.iter_mut().enumerate() {
+        *cell = pattern(first, k);
     }
 }
 
@@ -139,8 +138,8 @@ fn digit(c: u8) -> u8
     ensures { result ≤ 15 }
 {
     match c {
-        48..=57 => c - 48,
-        65..=70 => c - 55,
+        b'0'..=b'9' => c - b'0',
+        b'A'..=b'F' => c - b'A' + 10,
         _ => 0,
     }
 }
@@ -155,17 +154,13 @@ fn start_of(row: &[u8]) -> u32 {
     digit(peek(row, R)) as u32 * 65536 + low as u32
 }
 
-fn put(memory: &mut [u8], k: usize, v: u8) {
-    if k < memory.len() {
-        memory[k] = v;
-    }
-}
-
 fn load(row: &[u8], image: &mut [u8]) {
     for k in 0..LONGEST {
         let column = CODE + 3 * k;
-        if (column as usize) < row.len() {
-            put(image, (ORIGIN + k) as usize, byte_at(row, column));
+        if (column as usize) < row.len()
+            && let Some(cell) = image.get_mut((ORIGIN + k) as usize)
+        {
+            *cell = byte_at(row, column);
         }
     }
 }
@@ -177,19 +172,15 @@ impl Ran {
             return self;
         };
         let moved = self.machine.step(i, image, area);
-        let machine = moved.machine;
         Ran {
-            machine: machine,
-            cycles: std::num::wrapping_add_u64(self.cycles, moved.cycles.0 as u64),
+            machine: moved.machine,
+            cycles: self.cycles.wrapping_add(moved.cycles.0 as u64),
         }
     }
 }
 
 fn run(machine: Machine, steps: u8, image: &mut [u8], area: &mut [u8]) -> Ran {
-    let mut ran = Ran {
-        machine: machine,
-        cycles: 0,
-    };
+    let mut ran = Ran { machine, cycles: 0 };
     for _ in 0..steps {
         ran = ran.further(image, area);
     }
@@ -274,7 +265,7 @@ fn show_machine(rt: &impl Print, was: Machine, is: Machine) {
 
 // A byte of a memory by its address, unless it is the row's code.
 fn show_cell(rt: &impl Print, name: &[u8], at: u64, v: u8) {
-    if (at < ORIGIN as u64) | ((ORIGIN + LONGEST) as u64 <= at) {
+    if !(ORIGIN as u64..(ORIGIN + LONGEST) as u64).contains(&at) {
         host::show(rt, name);
         host::show_hexadecimal(rt, at, 4);
         host::show(rt, b"] ");
@@ -284,15 +275,10 @@ fn show_cell(rt: &impl Print, name: &[u8], at: u64, v: u8) {
 
 // The bytes that are not of the pattern, which they then are again; `at` is the address of the first.
 fn show_memory(rt: &impl Print, name: &[u8], at: u64, memory: &mut [u8], first: u8) {
-    for k in 0..memory.len() {
-        if memory[k] != pattern(first, k) {
-            show_cell(
-                rt,
-                name,
-                std::num::wrapping_add_u64(at, k as u64),
-                memory[k],
-            );
-            put(memory, k, pattern(first, k));
+    for (k, cell) in memory.iter_mut().enumerate() {
+        if *cell != pattern(first, k) {
+            show_cell(rt, name, at.wrapping_add(k as u64), *cell);
+            *cell = pattern(first, k);
         }
     }
 }
@@ -312,36 +298,17 @@ fn answer(rt: &impl Print, row: &[u8], image: &mut [u8], area: &mut [u8]) {
     let machine = start(start_of(row));
     load(row, image);
     let ran = run(machine, digit(peek(row, STEPS)), image, area);
-    let after = ran.machine;
     show_name(rt, row);
     host::show(rt, b"cycles ");
     host::show_decimal(rt, ran.cycles);
-    show_machine(rt, machine, after);
+    show_machine(rt, machine, ran.machine);
     show_memories(rt, image, area);
     host::show(rt, b"\n");
 }
 
-// The first line's length, with its end.
-fn line_length(text: &[u8]) -> usize
-    requires { 0 < length text.now }
-    ensures { (0 < result) × (result ≤ length text.now) }
-{
-    let mut n = 1;
-    while n < text.len() {
-        if text[n - 1] == b'\n' {
-            return n;
-        }
-        n += 1;
-    }
-    n
-}
-
 fn answer_all(rt: &impl Print, text: &[u8], image: &mut [u8], area: &mut [u8]) {
-    let mut at = 0;
-    while at < text.len() {
-        let end = at + line_length(&text[at..]);
-        answer(rt, &text[at..end], image, area);
-        at = end;
+    for row in text.split_inclusive(|byte| *byte == b'\n') {
+        answer(rt, row, image, area);
     }
 }
 

@@ -3,59 +3,33 @@
 // thousand, a million or a thousand million cycles: docs/PERFORMANCE.md measures it.
 #![tactic(auto)]
 
-ghost use Rattle.std.specs.Prelude.{◌≤◌};
-
 use cabinet::Ran;
+use cases::{hexadecimal, install, number};
+use printing::Line;
 
 // Where the code and the interrupts' handler go.
 const CODE: usize = 0x0100;
 
 const HANDLER: usize = 0x0200;
 
-fn install(image: &mut [u8], at: usize, code: &[u8]) {
-    if at <= image.len() {
-        if code.len() <= image.len() - at {
-            numbers::copy(code, &mut image[at..]);
-        }
-    }
-}
-
 // An image with the code, the handler, and vectors to them.
 fn rom(code: &[u8], handler: &[u8]) -> [u8; 65536] {
     let mut image = [0u8; 65536];
-    image[0xFFF0] = 0x02;
-    image[0xFFF2] = 0x02;
-    image[0xFFF4] = 0x02;
-    image[0xFFF6] = 0x02;
-    image[0xFFF8] = 0x02;
-    image[0xFFFC] = 0x02;
-    image[0xFFFE] = 0x01;
+    install(
+        &mut image,
+        0xFFF0,
+        b"\x02\0\x02\0\x02\0\x02\0\x02\0\0\0\x02\0\x01\0",
+    );
     install(&mut image, CODE, code);
     install(&mut image, HANDLER, handler);
     image
 }
 
-fn number(rt: &impl Print, name: &[u8], n: u64) {
-    host::show(rt, name);
-    host::show_decimal(rt, n);
-}
-
-fn hexadecimal(rt: &impl Print, name: &[u8], n: u64, digits: usize)
-    requires { digits ≤ 16 }
-{
-    host::show(rt, name);
-    host::show_hexadecimal(rt, n, digits);
-}
-
 fn show(rt: &impl Print, r: Ran, first: u8, second: u8) {
-    let reply = r.reply;
     let c = r.machine.chip.registers;
-    number(rt, b" stop ", reply.number() as u64);
-    number(rt, b" cycles ", r.cycles.0 as u64);
-    number(rt, b" instr ", r.instructions.0 as u64);
-    number(rt, b" entries ", r.entries.0 as u64);
-    number(rt, b" used ", r.used.0 as u64);
-    number(rt, b" sent ", r.sent.0 as u64);
+    number(rt, b" stop ", r.reply.number() as u64);
+    let counts = lines::run_numbers(r.cycles, r.instructions, r.entries, r.used, r.sent);
+    lines::counts(Line::empty(), counts).print(rt);
     hexadecimal(rt, b" pc ", c.pc as u64, 4);
     hexadecimal(rt, b" a ", c.a as u64, 2);
     hexadecimal(rt, b" b ", c.b as u64, 2);
@@ -65,39 +39,32 @@ fn show(rt: &impl Print, r: Ran, first: u8, second: u8) {
     hexadecimal(rt, b" 81 ", second as u64, 2);
 }
 
-fn single(rt: &impl Print, code: &[u8], handler: &[u8], session: &[u8], n: u32) {
+// Either run, from power-on.
+fn run(rt: &impl Print, leaping: bool, code: &[u8], handler: &[u8], session: &[u8], n: u32) {
     let mut image = rom(code, handler);
+    let mut area = [0u8; 128];
     let mut output = [0u8; 1];
     let Ok(m) = cabinet::power_on(&image, 65536) else {
         return;
     };
-    let mut area = [0u8; 128];
-    let r = cabinet::run_single(&mut image, &mut area, m, session, n, &mut output);
-    host::show(rt, b"  single ");
-    show(rt, r, image[0x80], image[0x81]);
-    host::show(rt, b"\n");
-}
-
-fn leaping(rt: &impl Print, code: &[u8], handler: &[u8], session: &[u8], n: u32) {
-    let mut image = rom(code, handler);
-    let mut output = [0u8; 1];
-    let Ok(m) = cabinet::power_on(&image, 65536) else {
-        return;
-    };
-    let mut area = [0u8; 128];
-    let l = cabinet::run_leaping(&mut image, &mut area, m, session, n, &mut output);
-    host::show(rt, b"  leaping");
-    let r = l.ran;
-    show(rt, r, image[0x80], image[0x81]);
-    number(rt, b" leaps ", l.leaps.0 as u64);
+    if leaping {
+        let l = cabinet::run_leaping(&mut image, &mut area, m, session, n, &mut output);
+        host::show(rt, b"  leaping");
+        show(rt, l.ran, image[0x80], image[0x81]);
+        number(rt, b" leaps ", l.leaps.0 as u64);
+    } else {
+        let r = cabinet::run_single(&mut image, &mut area, m, session, n, &mut output);
+        host::show(rt, b"  single ");
+        show(rt, r, image[0x80], image[0x81]);
+    }
     host::show(rt, b"\n");
 }
 
 fn both(rt: &impl Print, title: &[u8], code: &[u8], handler: &[u8], session: &[u8], n: u32) {
     host::show(rt, title);
     host::show(rt, b"\n");
-    single(rt, code, handler, session, n);
-    leaping(rt, code, handler, session, n);
+    run(rt, false, code, handler, session, n);
+    run(rt, true, code, handler, session, n);
 }
 
 fn limits(rt: &impl Print) {
@@ -225,13 +192,15 @@ fn limit(digit: u8) -> u32 {
 }
 
 // The first case, by one run alone and with another limit.
-fn measured(rt: &impl Print, run: u8, digit: u8) {
-    let wait = b"\x8E\x00\xFF\x3E";
-    if run == b'l' {
-        leaping(rt, wait, b"\x3B", b"", limit(digit));
-    } else {
-        single(rt, wait, b"\x3B", b"", limit(digit));
-    }
+fn measured(rt: &impl Print, kind: u8, digit: u8) {
+    run(
+        rt,
+        kind == b'l',
+        b"\x8E\x00\xFF\x3E",
+        b"\x3B",
+        b"",
+        limit(digit),
+    );
 }
 
 fn main(rt: HostRuntime) {

@@ -6,8 +6,10 @@ ghost use Rattle.io.specs.Counts.{IsPrefixLen};
 use bits::Flag;
 use boundary::Watch;
 use cabinet::Ran;
+use cases::{hexadecimal, install, number};
 use counts::Cycles;
 use machine::Machine;
+use printing::Line;
 
 // What a case changes of the machine after power-on: the causes that hold (bit k for cause k), I, waiting, SP, and whether a byte is to be sent.
 #[derive(Clone, Copy)]
@@ -31,98 +33,56 @@ struct Room {
 // Each vector leads to an address of its own, $0200 to $0260, where the code stays in place; power-on starts at $0100 with this opcode.
 fn rom(opcode: u8) -> [u8; 65536] {
     let mut image = [0u8; 65536];
-    image[0xFFFC] = 0x02;
-    image[0xFFF8] = 0x02;
-    image[0xFFF9] = 0x10;
-    image[0xFFF6] = 0x02;
-    image[0xFFF7] = 0x20;
-    image[0xFFF4] = 0x02;
-    image[0xFFF5] = 0x30;
-    image[0xFFF2] = 0x02;
-    image[0xFFF3] = 0x40;
-    image[0xFFF0] = 0x02;
-    image[0xFFF1] = 0x50;
-    image[0xFFFA] = 0x02;
-    image[0xFFFB] = 0x60;
-    image[0xFFFE] = 0x01;
+    install(
+        &mut image,
+        0xFFF0,
+        b"\x02\x50\x02\x40\x02\x30\x02\x20\x02\x10\x02\x60\x02\0\x01\0",
+    );
+    for at in (0x0200..=0x0260).step_by(16) {
+        install(&mut image, at, b"\x20\xFE");
+    }
     image[0x0100] = opcode;
-    image[0x0200] = 0x20;
-    image[0x0201] = 0xFE;
-    image[0x0210] = 0x20;
-    image[0x0211] = 0xFE;
-    image[0x0220] = 0x20;
-    image[0x0221] = 0xFE;
-    image[0x0230] = 0x20;
-    image[0x0231] = 0xFE;
-    image[0x0240] = 0x20;
-    image[0x0241] = 0xFE;
-    image[0x0250] = 0x20;
-    image[0x0251] = 0xFE;
-    image[0x0260] = 0x20;
-    image[0x0261] = 0xFE;
     image
 }
 
 fn has(causes: u8, weight: u8) -> bool {
-    match weight {
-        0 => false,
-        w => causes / w % 2 == 1,
-    }
+    causes & weight != 0
 }
 
 // A flag, armed where it is set.
 fn flag(set: bool) -> Flag {
-    Flag {
-        set: set,
-        armed: set,
-    }
+    Flag { set, armed: set }
 }
 
-fn with_timer(m: Machine, causes: u8) -> Machine {
-    let mut next = m;
-    let mut chip = m.chip;
-    let mut bus = m.chip.bus;
-    let mut t = m.chip.bus.timer;
-    t.icf = flag(has(causes, 4));
-    t.ocf = flag(has(causes, 8));
-    t.tof = flag(has(causes, 16));
-    t.eici = true;
-    t.eoci = true;
-    t.etoi = true;
-    bus.timer = t;
-    chip.bus = bus;
-    next.chip = chip;
-    next
+fn with_timer(mut m: Machine, causes: u8) -> Machine {
+    let timer = &mut m.chip.bus.timer;
+    timer.icf = flag(has(causes, 4));
+    timer.ocf = flag(has(causes, 8));
+    timer.tof = flag(has(causes, 16));
+    timer.eici = true;
+    timer.eoci = true;
+    timer.etoi = true;
+    m
 }
 
-fn with_serial(m: Machine, received: bool, sending: bool) -> Machine {
-    let mut next = m;
-    let mut chip = m.chip;
-    let mut bus = m.chip.bus;
-    let mut s = m.chip.bus.serial;
-    s.rie = true;
-    s.rdrf = flag(received);
-    s.te = sending;
-    s.tie = sending;
-    s.tdre = flag(!sending);
-    bus.serial = s;
-    chip.bus = bus;
-    next.chip = chip;
-    next
+fn with_serial(mut m: Machine, received: bool, sending: bool) -> Machine {
+    let serial = &mut m.chip.bus.serial;
+    serial.rie = true;
+    serial.rdrf = flag(received);
+    serial.te = sending;
+    serial.tie = sending;
+    serial.tdre = flag(!sending);
+    m
 }
 
-fn with_registers(m: Machine, s: Start) -> Machine {
-    let mut next = m;
-    let mut chip = m.chip;
-    let mut r = m.chip.registers;
-    r.codes.i = s.masked;
-    r.waiting = s.waiting;
-    r.sp = s.sp;
-    chip.registers = r;
-    next.chip = chip;
-    next.nmi = has(s.causes, 1);
-    next.irq1 = !has(s.causes, 2);
-    next
+fn with_registers(mut m: Machine, s: Start) -> Machine {
+    let registers = &mut m.chip.registers;
+    registers.codes.i = s.masked;
+    registers.waiting = s.waiting;
+    registers.sp = s.sp;
+    m.nmi = has(s.causes, 1);
+    m.irq1 = !has(s.causes, 2);
+    m
 }
 
 fn started(m: Machine, s: Start) -> Machine {
@@ -131,56 +91,30 @@ fn started(m: Machine, s: Start) -> Machine {
     with_registers(serial, s)
 }
 
-fn number(rt: &impl Print, name: &[u8], n: u64) {
-    host::show(rt, name);
-    host::show_decimal(rt, n);
-}
-
-fn yes(rt: &impl Print, name: &[u8], b: bool) {
-    host::show(rt, name);
-    if b {
-        host::show(rt, b"1");
-        return;
-    }
-    host::show(rt, b"0");
-}
-
-fn show_byte(rt: &impl Print, v: u8) {
-    host::show_hexadecimal(rt, v as u64, 2);
-}
-
-fn show_bytes(rt: &impl Print, log: &[u8]) {
-    let mut i = 0usize;
-    while i < log.len() {
-        show_byte(rt, log[i]);
-        i = i + 1;
+fn show_bytes(rt: &impl Print, bytes: &[u8]) {
+    for byte in bytes {
+        host::show_hexadecimal(rt, *byte as u64, 2);
     }
 }
 
 fn show_counts(rt: &impl Print, r: Ran) {
-    let reply = r.reply;
-    number(rt, b" stop ", reply.number() as u64);
-    number(rt, b" cycles ", r.cycles.0 as u64);
-    number(rt, b" instr ", r.instructions.0 as u64);
-    number(rt, b" entries ", r.entries.0 as u64);
-    number(rt, b" used ", r.used.0 as u64);
-    number(rt, b" sent ", r.sent.0 as u64);
+    number(rt, b" stop ", r.reply.number() as u64);
+    let counts = lines::run_numbers(r.cycles, r.instructions, r.entries, r.used, r.sent);
+    lines::counts(Line::empty(), counts).print(rt);
 }
 
 fn show_machine(rt: &impl Print, m: Machine) {
-    host::show(rt, b" pc ");
-    host::show_hexadecimal(rt, m.chip.registers.pc as u64, 4);
-    host::show(rt, b" sp ");
-    host::show_hexadecimal(rt, m.chip.registers.sp as u64, 4);
-    yes(rt, b" nmi ", m.nmi);
-    yes(rt, b" waiting ", m.chip.registers.waiting);
-    yes(rt, b" ocf ", m.chip.bus.timer.ocf.set);
+    let c = m.chip.registers;
+    hexadecimal(rt, b" pc ", c.pc as u64, 4);
+    hexadecimal(rt, b" sp ", c.sp as u64, 4);
+    number(rt, b" nmi ", m.nmi as u64);
+    number(rt, b" waiting ", c.waiting as u64);
+    number(rt, b" ocf ", m.chip.bus.timer.ocf.set as u64);
 }
 
 fn show(rt: &impl Print, r: Ran, log: &[u8]) {
-    let m = r.machine;
     show_counts(rt, r);
-    show_machine(rt, m);
+    show_machine(rt, r.machine);
     host::show(rt, b" log ");
     show_bytes(rt, log);
 }
@@ -189,103 +123,51 @@ fn show(rt: &impl Print, r: Ran, log: &[u8]) {
 fn lent(room: usize, buffer: &[u8]) -> usize
     ensures { IsPrefixLen result buffer.now }
 {
-    if room < buffer.len() {
-        return room;
+    room.min(buffer.len())
+}
+
+// Either run, watched.
+fn run(rt: &impl Print, leaping: bool, opcode: u8, session: &[u8], s: Start, room: Room) {
+    let mut image = rom(opcode);
+    let mut area = [0u8; 128];
+    let mut output = [0u8; 1];
+    let mut log = [0xEEu8; 24];
+    let sent = lent(room.output, &output);
+    let long = lent(room.log, &log);
+    let Ok(m) = cabinet::power_on(&image, 65536) else {
+        return;
+    };
+    let start = started(m, s);
+    let output = &mut output[..sent];
+    let log = &mut log[..long];
+    if leaping {
+        let l = cabinet::watch_leaping(
+            &mut image, &mut area, start, session, room.n, room.watch, output, log,
+        );
+        host::show(rt, b"  leaping");
+        show(rt, l.ran, log);
+        number(rt, b" leaps ", l.leaps.0 as u64);
+    } else {
+        let r = cabinet::watch_single(
+            &mut image, &mut area, start, session, room.n, room.watch, output, log,
+        );
+        host::show(rt, b"  single ");
+        show(rt, r, log);
     }
-    buffer.len()
-}
-
-fn single(
-    rt: &impl Print,
-    opcode: u8,
-    session: &[u8],
-    s: Start,
-    room: Room,
-    output: &mut [u8],
-    log: &mut [u8],
-) {
-    let mut image = rom(opcode);
-    let Ok(m) = cabinet::power_on(&image, 65536) else {
-        return;
-    };
-    let start = started(m, s);
-    let mut area = [0u8; 128];
-    let r = cabinet::watch_single(
-        &mut image, &mut area, start, session, room.n, room.watch, output, log,
-    );
-    host::show(rt, b"  single ");
-    show(rt, r, &log[..]);
     host::show(rt, b"\n");
-}
-
-fn leaping(
-    rt: &impl Print,
-    opcode: u8,
-    session: &[u8],
-    s: Start,
-    room: Room,
-    output: &mut [u8],
-    log: &mut [u8],
-) {
-    let mut image = rom(opcode);
-    let Ok(m) = cabinet::power_on(&image, 65536) else {
-        return;
-    };
-    let start = started(m, s);
-    let mut area = [0u8; 128];
-    let l = cabinet::watch_leaping(
-        &mut image, &mut area, start, session, room.n, room.watch, output, log,
-    );
-    let r = l.ran;
-    host::show(rt, b"  leaping");
-    show(rt, r, &log[..]);
-    number(rt, b" leaps ", l.leaps.0 as u64);
-    host::show(rt, b"\n");
-}
-
-fn singly(rt: &impl Print, opcode: u8, session: &[u8], s: Start, room: Room) {
-    let mut log = [0xEEu8; 24];
-    let mut output = [0u8; 1];
-    let long = lent(room.log, &log);
-    let sent = lent(room.output, &output);
-    single(
-        rt,
-        opcode,
-        session,
-        s,
-        room,
-        &mut output[..sent],
-        &mut log[..long],
-    );
-}
-
-fn by_leaps(rt: &impl Print, opcode: u8, session: &[u8], s: Start, room: Room) {
-    let mut log = [0xEEu8; 24];
-    let mut output = [0u8; 1];
-    let long = lent(room.log, &log);
-    let sent = lent(room.output, &output);
-    leaping(
-        rt,
-        opcode,
-        session,
-        s,
-        room,
-        &mut output[..sent],
-        &mut log[..long],
-    );
 }
 
 fn both(rt: &impl Print, title: &[u8], opcode: u8, session: &[u8], s: Start, room: Room) {
     host::show(rt, title);
     host::show(rt, b"\n");
-    singly(rt, opcode, session, s, room);
-    by_leaps(rt, opcode, session, s, room);
+    run(rt, false, opcode, session, s, room);
+    run(rt, true, opcode, session, s, room);
 }
 
 fn holding(causes: u8, masked: bool) -> Start {
     Start {
-        causes: causes,
-        masked: masked,
+        causes,
+        masked,
         waiting: false,
         sp: 0x00FF,
         sending: false,
@@ -294,8 +176,8 @@ fn holding(causes: u8, masked: bool) -> Start {
 
 fn logged(n: u32, log: usize) -> Room {
     Room {
-        n: n,
-        log: log,
+        n,
+        log,
         output: 1,
         watch: Watch {
             log: true,
@@ -329,21 +211,24 @@ fn together(rt: &impl Print) {
 const LOW: [u8; 9] = *b"\x07\x00\x03\x00\x64\x00\x00\x00\x00";
 
 fn waiting() -> Start {
-    let mut s = holding(0, false);
-    s.waiting = true;
-    s
+    Start {
+        waiting: true,
+        ..holding(0, false)
+    }
 }
 
 fn sending(causes: u8) -> Start {
-    let mut s = holding(causes, false);
-    s.sending = true;
-    s
+    Start {
+        sending: true,
+        ..holding(causes, false)
+    }
 }
 
 fn on_registers(causes: u8) -> Start {
-    let mut s = holding(causes, false);
-    s.sp = 0x0011;
-    s
+    Start {
+        sp: 0x0011,
+        ..holding(causes, false)
+    }
 }
 
 fn moments(rt: &impl Print) {
@@ -411,9 +296,10 @@ fn rooms(rt: &impl Print) {
 
 // No room for a row nor for a byte to be sent.
 fn no_room() -> Room {
-    let mut r = logged(20, 0);
-    r.output = 0;
-    r
+    Room {
+        output: 0,
+        ..logged(20, 0)
+    }
 }
 
 fn orders(rt: &impl Print) {
@@ -425,19 +311,20 @@ fn orders(rt: &impl Print) {
 }
 
 fn unlogged(log: usize) -> Room {
-    let mut r = logged(20, log);
-    r.watch = Watch::nothing();
-    r
+    Room {
+        watch: Watch::nothing(),
+        ..logged(20, log)
+    }
 }
 
 fn later(n: u32, since: u32) -> Room {
-    let watch = Watch {
-        log: true,
-        since: Cycles(since),
-    };
-    let mut r = logged(n, 8);
-    r.watch = watch;
-    r
+    Room {
+        watch: Watch {
+            log: true,
+            since: Cycles(since),
+        },
+        ..logged(n, 8)
+    }
 }
 
 fn watches(rt: &impl Print) {
