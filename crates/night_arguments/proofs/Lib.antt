@@ -1,3 +1,4 @@
 mod Laws
+pub mod Decimal
 mod Calls
 pub mod Worked

@@ -3,40 +3,15 @@
 
 ghost use Rattle.std.specs.Prelude.{◌≤◌, ◌≡◌, length, take};
 ghost use Rattle.io.specs.Counts.{IsPrefixLen};
-ghost use Rattle.night_arguments.specs.Arguments.{with_digit, number_of, joined_of};
+ghost use Rattle.night_arguments.specs.Arguments.{number_of, joined_of};
 ghost use Rattle.night_arguments.specs.Options.{kind_of, given, names_from, call_of};
 
-// A number with a digit more.
-#[tactic(auto, unfolding(crate::specs::Arguments::with_digit))]
-fn with_digit(v: u32, digit: u8) -> Option<u32>
-    ensures { result ≡ with_digit v digit }
-{
-    if digit < 48 {
-        return None;
-    }
-    if 57 < digit {
-        return None;
-    }
-    let w = 10 * (v as u64) + ((digit - 48) as u64);
-    if 4294967295 < w {
-        return None;
-    }
-    Some(w as u32)
-}
-
-#[tactic(auto, unfolding(crate::specs::Arguments::number_of))]
 // The number below 2^32 that a text is, in decimal.
+#[tactic(auto, using(crate::proofs::Decimal::same_number))]
 pub fn read_number(text: &[u8]) -> Option<u32>
     ensures { result ≡ number_of text.now }
 {
-    if text.len() == 0 {
-        return None;
-    }
-    let mut v = 0;
-    for digit in text {
-        v = with_digit(v, *digit)?;
-    }
-    Some(v)
+    digits::number(10, text)
 }
 
 // What an argument is that is no option's value: a name, `--`, an option that there is not, or an option.
