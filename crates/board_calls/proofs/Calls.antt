@@ -21,8 +21,9 @@ use Rattle.asking.specs.Asking.{told_decoded, opcode_answer}
 use Rattle.power.specs.Power.{told_power, power_answer}
 use Rattle.saved.specs.Layout.{saved_of}
 use Rattle.saved.specs.Answers.{left_of}
-use Rattle.rest.specs.declared.Rested.{Rested}
-use Rattle.rest.specs.declared.Rested.TheVariants.{Bad}
+use Rattle.std.specs.Prelude.{Result, Err}
+use Rattle.rest.specs.declared.RestRefusal.{RestRefusal}
+use Rattle.rest.specs.declared.RestRefusal.TheVariants.{Bad}
 use Rattle.rest.specs.Answers.{told_rest, rest_answer, rest_buffer}
 use Rattle.board_numbers.specs.Numbers.{instruction_bytes}
 use Rattle.board_results.specs.Returned.{returned, named_in}
@@ -67,7 +68,7 @@ module _ (session : List ℕ) (used cycles : ℕ) (buffer result : List ℕ) whe
   unfolding rest_call
   rest_short h = sym (picks _ _ (lt-ltb _ _ h))
 
-  pub rest_left : {a : Rested} (b : Rested) {left : List ℕ} → 8 ≤ length result
+  pub rest_left : {a : Result ℕ RestRefusal} (b : Result ℕ RestRefusal) {left : List ℕ} → 8 ≤ length result
       → (told_rest a ≡ rest_answer session used cycles buffer) × (left ≡ rest_buffer session used cycles buffer) → a ≡ b
       → on_rest left result (told_rest b) ≡ rest_call session used cycles buffer result
   unfolding rest_call
@@ -78,7 +79,7 @@ module _ (session : List ℕ) (used cycles : ℕ) (buffer result : List ℕ) whe
 -- a session's fault told in the result
 pub rest_refused : (left result : List ℕ) (f : Fault) (refusal : Reply) {n j k : ℕ} {r : List ℕ} → told_reply refusal ≡ told_fault f
     → n ≡ (told_reply refusal).number → j ≡ get_or (told_reply refusal).named 0 → (k ≡ n) × (r ≡ named_in (some j) result)
-    → returned k left r ≡ on_rest left result (told_rest (Bad f))
+    → returned k left r ≡ on_rest left result (told_rest (Err (Bad f)))
 rest_refused left result f refusal {n} {j} t p q e =
     returned_told left result j n e
     ∙ ap (λ (n : ℕ). returned n left (named_in (some j) result)) (p ∙ ap (λ (x : Told). x.number) t)

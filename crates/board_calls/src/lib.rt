@@ -9,7 +9,8 @@ ghost use Rattle.board_calls.specs.Calls.{wrote, power_call, ask_call, rest_call
 use counts::{Cycles, Records};
 use machine::PowerRefusal;
 use opcodes::Instruction;
-use rest::Rested;
+use replies::Reply;
+use rest::RestRefusal;
 
 // Power-on into a saved machine.
 pub fn power_on(image: &[u8], r: u32, machine: &mut [u8]) -> u32
@@ -57,14 +58,14 @@ pub fn rest(session: &[u8], used: Records, cycles: Cycles, buffer: &mut [u8], re
     }
     let left = rest::rest(session, used, cycles, buffer);
     match left {
-        Rested::Written(length) => board_results::tell(0, length, res),
-        Rested::Bad(fault) => {
-            let refusal = replies::refusal(fault);
+        Ok(length) => board_results::tell(0, length, res),
+        Err(RestRefusal::Bad(fault)) => {
+            let refusal = Reply::from(fault);
             let number = refusal.number() as u32;
             let named = refusal.record();
             board_results::tell(number, named, res)
         }
-        Rested::TooFew => 30,
-        Rested::NoRoom => 31,
+        Err(RestRefusal::TooFew) => 30,
+        Err(RestRefusal::NoRoom) => 31,
     }
 }

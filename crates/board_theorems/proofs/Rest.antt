@@ -12,8 +12,7 @@ use Rattle.laws.proofs.Conds.{cases}
 use Rattle.session.specs.Session.{check_of, fault_number}
 use Rattle.session.specs.declared.Fault.{Fault}
 use Rattle.session.specs.declared.Fault.TheVariants.{Length, Kind, Value, Time}
-use Rattle.session.specs.declared.Checked.{Checked}
-use Rattle.session.specs.declared.Checked.TheVariants.{Sound, Bad}
+use Rattle.std.specs.Prelude.{Result, Ok, Err, ⊤}
 use Rattle.replies.specs.Replies.{Told, told, told_fault, told_check}
 use Rattle.rest.specs.Rest.{has_fewer, rest_of}
 use Rattle.rest.specs.Answers.{first_of, answer_by, buffer_by, rest_refusal, rest_answer, rest_buffer}
@@ -46,11 +45,11 @@ module _ (session : List ℕ) (used cycles : ℕ) (buffer result : List ℕ) whe
   unfolding rest_call rest_buffer rest_answer rest_refusal
   rest_cases P short refused done = cases P (ltb (length result) 8) (λ _. short) (λ _. by (check_of session))
     where
-      by : (c : Checked) → P (answered (first_of (told_check c) soundly))
-      by Sound =
+      by : (c : Result ⊤ Fault) → P (answered (first_of (told_check c) soundly))
+      by (Ok x) =
           cases (λ (o : Option Told). P (answered o)) (has_fewer session used) (λ _. refused (told 30 none) (inr refl))
           (λ _. cases (λ (o : Option Told). P (answered o)) (ltb (length buffer) (length rest)) (λ _. refused (told 31 none) (inr refl)) (λ _. done))
-      by (Bad f) = refused (told_fault f) (inl (fault_most f))
+      by (Err f) = refused (told_fault f) (inl (fault_most f))
 
   pub rest_kept : let c = rest_call session used cycles buffer result in 1 ≤ c.number → c.buffer ≡ buffer
   rest_kept = rest_cases (λ c. 1 ≤ c.number → c.buffer ≡ buffer) (λ p. refl) (λ t h p. refl) (λ p. absurd (let z : ⊥ = omega arith in z))

@@ -3,7 +3,7 @@
 use Rattle.std.proofs.Common.{◌≡◌, ℕ, ◌+◌, ◌<◌, ◌≤◌, List, length, refl, ◌∙◌, arith}
 use Rattle.turns.specs.Turn.{Then}
 use Rattle.session.specs.Session.{check_from, check_of, time_at}
-use Rattle.session.specs.declared.Checked.TheVariants.{Sound}
+use Rattle.std.specs.Prelude.{Ok}
 use Rattle.session.proofs.Laws.{next_after, Step, sound_step, due_there}
 use Rattle.machine.specs.declared.Machine.{Machine}
 use Rattle.machine.proofs.Steps.{step_cycles, step_spared, entered_spared}
@@ -118,7 +118,7 @@ counts_grow t w =
 -- What stands ahead in a sound session is sound, its next record is the first that is not used, and the place is within it.
 pub record Ahead (session : List ℕ) (s : State) : Type 0 where
   pub before : ℕ
-  pub sound : check_from session s.used.0 before s.place ≡ Sound
+  pub sound : check_from session s.used.0 before s.place ≡ Ok tt
   pub within : s.place ≤ length session
 
 pub step_ahead : (session : List ℕ) (s : State) → s.place < length session → (a : Ahead session s)
@@ -138,9 +138,9 @@ ahead t =
       stepped = λ w i f e l h. record { before = h.before; sound = h.sound; within = h.within };
     }
 
-pub start_ahead : (session : List ℕ) (m : Machine) → check_of session ≡ Sound → Ahead session (start_of m)
+pub start_ahead : (session : List ℕ) (m : Machine) → check_of session ≡ Ok tt → Ahead session (start_of m)
 start_ahead session m h = record { before = 0; sound = h; within = omega arith }
 
-pub place_within : (t : Terms) (m : Machine) (l : Lent) → check_of t.session ≡ Sound → (ran_of t m l).world.state.place ≤ length t.session
+pub place_within : (t : Terms) (m : Machine) (l : Lent) → check_of t.session ≡ Ok tt → (ran_of t m l).world.state.place ≤ length t.session
 place_within t m l h =
     (run_holds t (λ w. Ahead t.session w.state) (ahead t) (start_world m l) (start_ahead t.session m h)).within

@@ -1,5 +1,5 @@
 -- One boundary of a run, in 01's six steps and their order, with 02's wake log, and the run as boundaries until one stops it.
-use Rattle.std.specs.Prelude.{ℕ, ◌+◌, ◌-◌, ◌%◌, ◌^◌, Bool, true, false, cond, not, ◌&&◌, List, length, nat_le, slice_set, Option, None, Some}
+use Rattle.std.specs.Prelude.{ℕ, ◌+◌, ◌-◌, ◌%◌, ◌^◌, Bool, true, false, cond, not, ◌&&◌, List, length, nat_le, slice_set, Option, Some, None}
 use Rattle.turns.specs.Turn.{Turn, more, done, loop_of}
 use Rattle.session.specs.Session.{event_at, next_at, due_at}
 use Rattle.serial.specs.Serial.{wants_to_send}
@@ -15,10 +15,9 @@ use Rattle.machine.specs.Steps.{Stepped, entered_of, look_of, step_of}
 use Rattle.wake_log.specs.declared.Row.{Row}
 use Rattle.wake_log.specs.Log.{fits_row, with_row}
 use Rattle.boundary.specs.declared.State.{State}
+use Rattle.boundary.specs.declared.Stop.{Stop}
 use Rattle.boundary.specs.declared.Stop.TheVariants.{Limit, Undefined, Full, LogFull}
 use Rattle.boundary.specs.declared.Watch.{Watch}
-use Rattle.boundary.specs.declared.Progress.{Progress}
-use Rattle.boundary.specs.declared.Progress.TheVariants.{Going, Stopped}
 use Rattle.boundary.specs.declared.Turned.{Turned}
 use Rattle.boundary.specs.World.{Lent, memories_in, with_memories, with_output, with_log, Terms, World, world_of, Ended, ended_of}
 use Rattle.boundary.specs.World.{by_entry, by_waiting, by_instructions, grown_to}
@@ -149,9 +148,9 @@ unfoldable pub run_of : Terms → World → Ended
 run_of t w = loop_of (boundary_of t) (λ (x : World). ended_of Limit x) (cycles_left t) w
 
 -- how the code tells a turn
-abbrev pub progress_turn : Progress → World → Turn World Ended
-progress_turn Going w = more w
-progress_turn (Stopped k) w = done (ended_of k w)
+abbrev pub stop_turn : Option Stop → World → Turn World Ended
+stop_turn None w = more w
+stop_turn (Some k) w = done (ended_of k w)
 
 abbrev pub turned : Turned → Lent → Turn World Ended
-turned r l = progress_turn r.progress (world_of r.state l)
+turned r l = stop_turn r.stop (world_of r.state l)

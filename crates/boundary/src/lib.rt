@@ -52,16 +52,11 @@ pub enum Stop {
     LogFull,
 }
 
-#[derive(Clone, Copy)]
-pub enum Progress {
-    Going,
-    Stopped(Stop),
-}
-
+// What a boundary leaves, and the stop where it ends the run.
 #[derive(Clone, Copy)]
 pub struct Turned {
     pub state: State,
-    pub progress: Progress,
+    pub stop: Option<Stop>,
 }
 
 impl Watch {
@@ -233,7 +228,7 @@ impl State {
         self.log_entry(watch, cause, log);
         Turned {
             state: self.enter(cause, image, area),
-            progress: Progress::Going,
+            stop: None,
         }
     }
 
@@ -264,7 +259,7 @@ impl State {
         match look {
             None => Turned {
                 state: self,
-                progress: Progress::Stopped(Stop::Undefined),
+                stop: Some(Stop::Undefined),
             },
             Some(i) => {
                 let e = self.machine.step(i, image, area);
@@ -277,7 +272,7 @@ impl State {
                 };
                 Turned {
                     state: self.moved(e.machine, by, false),
-                    progress: Progress::Going,
+                    stop: None,
                 }
             }
         }
@@ -310,7 +305,7 @@ impl State {
                 if self.machine.chip.registers.idles() {
                     return Turned {
                         state: self.wait(),
-                        progress: Progress::Going,
+                        stop: None,
                     };
                 }
                 self.step(image, area)
@@ -338,7 +333,7 @@ impl State {
             if output.len() <= at {
                 return Turned {
                     state: self,
-                    progress: Progress::Stopped(Stop::Full),
+                    stop: Some(Stop::Full),
                 };
             }
             output[at] = self.machine.chip.bus.serial.transmit;
@@ -346,7 +341,7 @@ impl State {
             if sent.lacks_row(logs, &log[..]) {
                 return Turned {
                     state: sent,
-                    progress: Progress::Stopped(Stop::LogFull),
+                    stop: Some(Stop::LogFull),
                 };
             }
             return sent.act(logs, since, image, area, log);
@@ -355,7 +350,7 @@ impl State {
         if rested.lacks_row(logs, &log[..]) {
             return Turned {
                 state: rested,
-                progress: Progress::Stopped(Stop::LogFull),
+                stop: Some(Stop::LogFull),
             };
         }
         rested.act(logs, since, image, area, log)
@@ -380,7 +375,7 @@ impl State {
         if n <= self.cycles.0 {
             return Turned {
                 state: self,
-                progress: Progress::Stopped(Stop::Limit),
+                stop: Some(Stop::Limit),
             };
         }
         let since = watch.since;

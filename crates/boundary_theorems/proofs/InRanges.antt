@@ -4,7 +4,7 @@ use mathlib.Core.List.{List}
 use mathlib.Core.Path.{◌≡◌}
 use mathlib.Core.Bool.{true}
 use Rattle.session.specs.Session.{event_at, check_of}
-use Rattle.session.specs.declared.Checked.TheVariants.{Sound}
+use Rattle.std.specs.Prelude.{Ok}
 use Rattle.session.proofs.Laws.{due_there}
 use Rattle.bus.proofs.Ranges as bus
 use Rattle.machine.specs.declared.Machine.{Machine}
@@ -36,6 +36,6 @@ good t =
       stepped = λ w i f e l h. (a.stepped w i f e l h.0, step_ranges i (memories_in w.lent) w.state.machine h.1);
     }
 
-pub run_ranges : (t : Terms) (m : Machine) (l : Lent) → check_of t.session ≡ Sound → ranges_of m ≡ true
+pub run_ranges : (t : Terms) (m : Machine) (l : Lent) → check_of t.session ≡ Ok tt → ranges_of m ≡ true
     → ranges_of (ran_of t m l).world.state.machine ≡ true
 run_ranges t m l s r = (run_holds t (Good t.session) (good t) (start_world m l) (start_ahead t.session m s, r)).1

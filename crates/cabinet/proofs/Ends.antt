@@ -12,8 +12,7 @@ use Rattle.laws.proofs.Options.{some_none}
 use Rattle.session.specs.Session.{check_of, fault_number}
 use Rattle.session.specs.declared.Fault.{Fault}
 use Rattle.session.specs.declared.Fault.TheVariants as fault
-use Rattle.session.specs.declared.Checked.{Checked}
-use Rattle.session.specs.declared.Checked.TheVariants.{Sound, Bad}
+use Rattle.std.specs.Prelude.{Result, Ok, Err, ⊤}
 use Rattle.replies.specs.declared.Reply.{Reply}
 use Rattle.replies.specs.Replies.{Told, told, told_reply, told_fault, told_check, stops}
 use Rattle.machine.specs.declared.Machine.{Machine}
@@ -26,8 +25,6 @@ use Rattle.boundary.specs.World.{Lent, Terms, World, Ended, world_of, ended_of, 
 use Rattle.boundary.specs.Boundary.{run_of}
 use Rattle.boundary.specs.Counts.{Fine}
 use Rattle.boundary.specs.Start.{start_of, start_world, ran_of}
-use Rattle.cabinet.specs.declared.Admission.{Admission}
-use Rattle.cabinet.specs.declared.Admission.TheVariants.{Admitted, Refused}
 use Rattle.cabinet.specs.Answers.{told_admission, told_stop, refusal_of, End, end_at, on_refusal, end_of, ended_with, answer_of}
 
 pub start_fine : (m : Machine) {s : State} → s ≡ start_of m → Fine s
@@ -116,14 +113,14 @@ module _ (asked : Terms) (m : Machine) (given : Lent) where
       ∙ ap (λ (x : Ended). end_at (told_stop x.stop) x.world) (sym h)
 
   -- what `end` returns, where the tests refuse and where they do not
-  module _ {a : Admission} {s : State} (t : told_admission a ≡ refusal_of asked m given) (f : s ≡ start_of m) where
-    pub refusal_ends : {r : Reply} → a ≡ Refused r
+  module _ {a : Result ⊤ Reply} {s : State} (t : told_admission a ≡ refusal_of asked m given) (f : s ≡ start_of m) where
+    pub refusal_ends : {r : Reply} → a ≡ Err r
         → ended_with (record { reply = r; state = s }) given ≡ end_of asked m given
     refusal_ends {r} e =
         ap (λ (x : State). end_at (told_reply r) (world_of x given)) f
         ∙ sym (end_refused (sym t ∙ ap told_admission e))
 
-    pub run_ends : (r : Reply) (k : Stop) {u : State} {l : Lent} → a ≡ Admitted
+    pub run_ends : (r : Reply) (k : Stop) {u : State} {l : Lent} → a ≡ Ok tt
         → ended_of k (world_of u l) ≡ run_of asked (world_of s given)
         → told_reply r ≡ told_stop k
         → ended_with (record { reply = r; state = u }) l ≡ end_of asked m given
@@ -137,19 +134,19 @@ module _ (asked : Terms) (m : Machine) (given : Lent) where
       → (length given.image ≡ 65536 → (length given.area ≡ 128 → ⊥) → P (end_at (told 12 none) (start_world m given)))
       → (Lengths given → ranges_of m ≡ false → P (end_at (told 2 none) (start_world m given)))
       → (Lengths given → ranges_of m ≡ true → 1000000000 < asked.limit → P (end_at (told 3 none) (start_world m given)))
-      → (Passed → (f : Fault) → check_of asked.session ≡ Bad f → P (end_at (told_fault f) (start_world m given)))
-      → (Passed → check_of asked.session ≡ Sound → P (end_at (told_stop (ran_of asked m given).stop) (ran_of asked m given).world))
+      → (Passed → (f : Fault) → check_of asked.session ≡ Err f → P (end_at (told_fault f) (start_world m given)))
+      → (Passed → check_of asked.session ≡ Ok tt → P (end_at (told_stop (ran_of asked m given).stop) (ran_of asked m given).world))
       → P (end_of asked m given)
   unfolding end_of
   end_cases P p k q s t u =
       refusal_cases (λ (x : Option Told). P (on_refusal x (start_world m given) (ran_of asked m given))) p k q s (λ a. by a (check_of asked.session) refl)
     where
-      by : Passed → (c : Checked) → check_of asked.session ≡ c → P (on_refusal (told_check c) (start_world m given) (ran_of asked m given))
-      by a Sound e = u a e
-      by a (Bad f) e = t a f e
+      by : Passed → (c : Result ⊤ Fault) → check_of asked.session ≡ c → P (on_refusal (told_check c) (start_world m given) (ran_of asked m given))
+      by a (Ok x) e = u a e
+      by a (Err f) e = t a f e
 
   -- what holds of the start and of where a run stops holds of what is left, whatever the reply
-  pub left_cases : (P : World → Type 0) → P (start_world m given) → (check_of asked.session ≡ Sound → P (ran_of asked m given).world)
+  pub left_cases : (P : World → Type 0) → P (start_world m given) → (check_of asked.session ≡ Ok tt → P (ran_of asked m given).world)
       → P (end_of asked m given).world
   left_cases P s r = end_cases (λ x. P x.world) (λ l. s) (λ l k. s) (λ l f. s) (λ l f h. s) (λ a f e. s) (λ a e. r e)
 

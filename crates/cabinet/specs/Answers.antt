@@ -1,7 +1,8 @@
 -- What the two runs answer, for all inputs.
-use Rattle.std.specs.Prelude.{ℕ, cond, not, eqb, ltb, length}
+use Rattle.std.specs.Prelude.{ℕ, cond, not, eqb, ltb, length, Result, Ok, Err, ⊤}
 use Rattle.std.proofs.Math.Option.{Option, none, some}
 use Rattle.session.specs.Session.{check_of}
+use Rattle.replies.specs.declared.Reply.{Reply}
 use Rattle.replies.specs.Replies.{Told, told, told_reply, told_check}
 use Rattle.machine.specs.declared.Machine.{Machine}
 use Rattle.machine.specs.Machine.{ranges_of}
@@ -10,8 +11,6 @@ use Rattle.boundary.specs.World.{Lent, Terms, World, Ended, world_of, stop_numbe
 use Rattle.boundary.specs.Start.{start_world, ran_of}
 use Rattle.cabinet.specs.declared.Ran.{Ran}
 use Rattle.cabinet.specs.declared.Ending.{Ending}
-use Rattle.cabinet.specs.declared.Admission.{Admission}
-use Rattle.cabinet.specs.declared.Admission.TheVariants.{Admitted, Refused}
 
 -- "1, 2, 3 are tested in that order, then the session from the front", and 12 "straight after 1": the reply that refuses a run, where one does
 unfoldable pub refusal_of : Terms → Machine → Lent → Option Told
@@ -105,6 +104,6 @@ abbrev pub ended_with : Ending → Lent → End
 ended_with e l = end_at (told_reply e.reply) (world_of e.state l)
 
 -- a refusal, where there is one
-abbrev pub told_admission : Admission → Option Told
-told_admission Admitted = none
-told_admission (Refused r) = some (told_reply r)
+abbrev pub told_admission : Result ⊤ Reply → Option Told
+told_admission (Ok x) = none
+told_admission (Err r) = some (told_reply r)

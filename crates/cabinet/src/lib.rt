@@ -4,7 +4,7 @@
 ghost use Rattle.std.specs.Prelude.{◌≡◌, take};
 ghost use Rattle.asking.specs.Asking.{told_decoded, opcode_answer};
 ghost use Rattle.power.specs.Power.{told_power, power_answer};
-ghost use Rattle.replies.specs.Replies.{told_reply, told_check};
+ghost use Rattle.replies.specs.Replies.{told_reply};
 ghost use Rattle.bus.specs.Access.{memories};
 ghost use Rattle.boundary.specs.declared.Watch.{Watch};
 ghost use Rattle.boundary.specs.World.{Lent, lent, lending, with_memories, terms, watching};
@@ -17,7 +17,6 @@ use counts::{Cycles, Entries, Instructions, Leaps, Records, Sent};
 use machine::{Machine, PowerRefusal};
 use opcodes::Instruction;
 use replies::Reply;
-use session::Checked;
 
 // What both runs report.
 #[derive(Clone, Copy)]
@@ -36,12 +35,6 @@ pub struct Ran {
 pub struct Leapt {
     pub ran: Ran,
     pub leaps: Leaps,
-}
-
-#[derive(Clone, Copy)]
-enum Admission {
-    Admitted,
-    Refused(Reply),
 }
 
 // How a call ends.
@@ -68,18 +61,8 @@ fn start(m: Machine) -> State
     }
 }
 
-// The reply of the session's check.
-fn verdict(c: Checked) -> Admission
-    ensures { told_admission result ≡ told_check c }
-{
-    match c {
-        Checked::Sound => Admission::Admitted,
-        Checked::Bad(fault) => Admission::Refused(replies::refusal(fault)),
-    }
-}
-
 // The tests of 1, 12, 2 and 3, then the session from the front.
-fn admit(image: &[u8], area: &[u8], m: Machine, session: &[u8], n: u32) -> Admission
+fn admit(image: &[u8], area: &[u8], m: Machine, session: &[u8], n: u32) -> Result<(), Reply>
     ensures { (watch : Watch) (l : Lent) → told_admission result
         ≡ refusal_of (watching session.now n watch) m (with_memories l (memories image.now area.now)) }
 {
@@ -87,18 +70,19 @@ fn admit(image: &[u8], area: &[u8], m: Machine, session: &[u8], n: u32) -> Admis
     let wrong_machine = !m.in_ranges();
     let wrong_limit = n > 1000000000;
     if image.len() != 65536 {
-        return Admission::Refused(Reply::WrongImage);
+        return Err(Reply::WrongImage);
     }
     if wrong_area {
-        return Admission::Refused(Reply::WrongArea);
+        return Err(Reply::WrongArea);
     }
     if wrong_machine {
-        return Admission::Refused(Reply::WrongMachine);
+        return Err(Reply::WrongMachine);
     }
     if wrong_limit {
-        return Admission::Refused(Reply::WrongLimit);
+        return Err(Reply::WrongLimit);
     }
-    verdict(session::check(session))
+    session::check(session)?;
+    Ok(())
 }
 
 // The reply of a run that stopped.
@@ -129,21 +113,16 @@ fn end(
         ≡ end_of (watching session.now n watch) m (lending image.old area.old output.old log.old) }
 {
     let start = start(m);
-    let admission = admit(&image[..], &area[..], m, session, n);
-    match admission {
-        Admission::Refused(reply) => Ending {
-            reply: reply,
+    if let Err(reply) = admit(&image[..], &area[..], m, session, n) {
+        return Ending {
+            reply,
             state: start,
-        },
-        Admission::Admitted => {
-            let outcome = run::run(leaping, session, n, watch, image, area, output, log, start);
-            let stop = outcome.stop;
-            let state = outcome.state;
-            Ending {
-                reply: stopped(stop),
-                state: state,
-            }
-        }
+        };
+    }
+    let outcome = run::run(leaping, session, n, watch, image, area, output, log, start);
+    Ending {
+        reply: stopped(outcome.stop),
+        state: outcome.state,
     }
 }
 

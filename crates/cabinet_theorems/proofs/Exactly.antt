@@ -10,7 +10,7 @@ use lib.ListN.{length, get_or}
 use Rattle.session.specs.Session.{check_of, fault_number}
 use Rattle.session.specs.declared.Fault.{Fault}
 use Rattle.session.specs.declared.Fault.TheVariants.{Length, Kind, Value, Time}
-use Rattle.session.specs.declared.Checked.TheVariants.{Sound, Bad}
+use Rattle.std.specs.Prelude.{Ok, Err}
 use Rattle.session.proofs.Exactly.{Answered, exactly}
 use Rattle.machine.specs.declared.Machine.{Machine}
 use Rattle.machine.specs.Machine.{Ranges, ranges_of}
@@ -143,16 +143,16 @@ module _ (asked : Terms) (m : Machine) (given : Lent) where
   )
 
   -- 4 to 7, after these: the session's check says so, and names the record
-  refused_by_lem : (f : Fault) → Replies (told_fault f) ↔ (Passes × Answered asked.session (Bad f))
+  refused_by_lem : (f : Fault) → Replies (told_fault f) ↔ (Passes × Answered asked.session (Err f))
   refused_by_lem f =
       let b = fault_number_lem f in (
         (λ e.
-            end_cases asked m given (λ x. x.reply ≡ told_fault f → Passes × Answered asked.session (Bad f))
+            end_cases asked m given (λ x. x.reply ≡ told_fault f → Passes × Answered asked.session (Err f))
             (λ l d. absurd (let d = number d in let z : ⊥ = omega (arith, b.0) in z))
             (λ l k d. absurd (let d = number d in let z : ⊥ = omega (arith, b.1) in z))
             (λ l r d. absurd (let d = number d in let z : ⊥ = omega (arith, b.0) in z))
             (λ l r h d. absurd (let d = number d in let z : ⊥ = omega (arith, b.0) in z))
-            (λ p g h d. (p, (exactly asked.session (Bad f)).0 (h ∙ ap Bad (fault_known g f d))))
+            (λ p g h d. (p, (exactly asked.session (Err f)).0 (h ∙ ap Err (fault_known g f d))))
             (λ p s d. stop_number_lem (ran_of asked m given).stop (number d) (fault_refuses f))
             e),
         (λ h.
@@ -160,28 +160,28 @@ module _ (asked : Terms) (m : Machine) (given : Lent) where
             refused_reply
             (end_refused asked m given
             (session_decides asked m given p.lengths (say_ranges m.chip.bus p.in_ranges) p.within
-            ∙ ap told_check ((exactly asked.session (Bad f)).1 h.1)))),
+            ∙ ap told_check ((exactly asked.session (Err f)).1 h.1)))),
       )
 
   -- 4: "a session record is cut short, or its length is wrong for its kind"
-  pub reply_4 : (k : ℕ) → Replies (told 4 (some k)) ↔ (Passes × Answered asked.session (Bad (Length k)))
+  pub reply_4 : (k : ℕ) → Replies (told 4 (some k)) ↔ (Passes × Answered asked.session (Err (Length k)))
   reply_4 k = refused_by_lem (Length k)
 
   -- 5: "a record's kind is unknown"
-  pub reply_5 : (k : ℕ) → Replies (told 5 (some k)) ↔ (Passes × Answered asked.session (Bad (Kind k)))
+  pub reply_5 : (k : ℕ) → Replies (told 5 (some k)) ↔ (Passes × Answered asked.session (Err (Kind k)))
   reply_5 k = refused_by_lem (Kind k)
 
   -- 6: "a record's value is out of range"
-  pub reply_6 : (k : ℕ) → Replies (told 6 (some k)) ↔ (Passes × Answered asked.session (Bad (Value k)))
+  pub reply_6 : (k : ℕ) → Replies (told 6 (some k)) ↔ (Passes × Answered asked.session (Err (Value k)))
   reply_6 k = refused_by_lem (Value k)
 
   -- 7: "a record's time is before the previous record's"
-  pub reply_7 : (k : ℕ) → Replies (told 7 (some k)) ↔ (Passes × Answered asked.session (Bad (Time k)))
+  pub reply_7 : (k : ℕ) → Replies (told 7 (some k)) ↔ (Passes × Answered asked.session (Err (Time k)))
   reply_7 k = refused_by_lem (Time k)
 
   -- a run that is not refused
   abbrev pub Admitted : Type 0
-  Admitted = Passes × (check_of asked.session ≡ Sound)
+  Admitted = Passes × (check_of asked.session ≡ Ok tt)
 
   pub admitted_end : Admitted → end_of asked m given ≡ (let e = ran_of asked m given in end_at (told_stop e.stop) e.world)
   admitted_end h =

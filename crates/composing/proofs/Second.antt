@@ -8,7 +8,7 @@ use mathlib.Core.Path.{◌≡◌, refl, sym, ap, subst, ◌∙◌}
 use mathlib.Core.Bool.{Bool, true, false}
 use lib.ListN.{length, take, drop, take-append-drop}
 use Rattle.session.specs.Session.{next_at, check_of}
-use Rattle.session.specs.declared.Checked.TheVariants.{Sound}
+use Rattle.std.specs.Prelude.{Ok}
 use Rattle.machine.specs.declared.Machine.{Machine}
 use Rattle.boundary.specs.declared.Watch.{Watch}
 use Rattle.boundary.specs.World.{Lent, lending, with_log, Terms, watching, logged_bytes, World, Ended, world_of}
@@ -98,15 +98,15 @@ module _ (session : List ℕ) (watch : Watch) (m : Machine) (given : Lent) (n₁
   unfolding rest_of
   rest_there = ap (λ (k : ℕ). rest_from session first.state.cycles.0 k []) (sym used_there)
 
-  module _ (sound : check_of session ≡ Sound) where
+  module _ (sound : check_of session ≡ Ok tt) where
     pub used_within : place_of session first.state.used.0 ≤ length session
     used_within = rw used_there (place_within one m given sound)
 
     place_there : SoundFrom session first.state.place
     place_there = subst (SoundFrom session) used_there (place_sound session first.state.used.0 sound used_within)
 
-    pub after_sound : check_of rest_after ≡ Sound
-    after_sound = subst (λ (r : List ℕ). check_of r ≡ Sound) rest_there (rest_sound session first.state.cycles.0 first.state.place place_there)
+    pub after_sound : check_of rest_after ≡ Ok tt
+    after_sound = subst (λ (r : List ℕ). check_of r ≡ Ok tt) rest_there (rest_sound session first.state.cycles.0 first.state.place place_there)
 
     after_long : length session ≡ first.state.place + length rest_after
     after_long =

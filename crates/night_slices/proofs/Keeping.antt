@@ -2,11 +2,11 @@
 use Rattle.std.proofs.Common.{◌≡◌, ℕ, ◌≤◌, true, false, List, ◌++◌, length, take, drop, sym, refl, ap, ◌∙◌, arith, length-take, length-take-le, take_all, take_at}
 use Rattle.laws.proofs.Conds.{picks, passes}
 use Rattle.session.specs.Session.{check_of}
-use Rattle.session.specs.declared.Checked.TheVariants.{Sound}
+use Rattle.std.specs.Prelude.{Ok, Err, Result}
 use Rattle.replies.specs.Replies.{Told, stops}
 use Rattle.rest.specs.Rest.{place_of, rest_of}
 use Rattle.rest.specs.Answers.{rest_wrote, told_rest, rest_answer, rest_buffer}
-use Rattle.rest.specs.declared.Rested.{Rested}
+use Rattle.rest.specs.declared.RestRefusal.{RestRefusal}
 use Rattle.rest.proofs.Places.{place_sound}
 use Rattle.rest.proofs.Laws.{rest_length}
 use Rattle.rest.proofs.Exactly.{answer_cases, rest_4_to_7, rest_30, rest_written, rest_left}
@@ -17,7 +17,7 @@ module _ (s : List ℕ) (u c : ℕ) where
   rest = rest_of s u c
 
   -- the rest of a session is no longer than the session
-  fits : check_of s ≡ Sound → place_of s u ≤ length s → length rest ≤ length s
+  fits : check_of s ≡ Ok tt → place_of s u ≤ length s → length rest ≤ length s
   unfolding rest_of
   fits h p = let e = rest_length s c (place_of s u) (place_sound s u h p) in omega arith
 
@@ -53,7 +53,7 @@ module _ (s : List ℕ) (u c : ℕ) where
     keeps_refused e = sym (passes _ _ e)
 
     -- a run that stopped keeps what crate rest says
-    pub keeps_rest : stops t.number ≡ true → (b : List ℕ) → length s ≤ length b → (r : Rested) → told_rest r ≡ rest_answer s u c b
+    pub keeps_rest : stops t.number ≡ true → (b : List ℕ) → length s ≤ length b → (r : Result ℕ RestRefusal) → told_rest r ≡ rest_answer s u c b
         → on_keep t s rest (told_rest r) ≡ keeping_of t s u c
     unfolding keeping_of
     keeps_rest e b l r f = ap (on_keep t s rest) (f ∙ same_answer b l) ∙ sym (picks _ _ e)
@@ -66,7 +66,7 @@ module _ (size : ℕ) (session spare : List ℕ) (h : size ≤ length session) (
   short : length had ≤ length spare
   short = let l = length-take-le size session h in omega arith
 
-  pub keeps_had : (t : Told) → stops t.number ≡ true → (r : Rested) → told_rest r ≡ rest_answer had u c spare
+  pub keeps_had : (t : Told) → stops t.number ≡ true → (r : Result ℕ RestRefusal) → told_rest r ≡ rest_answer had u c spare
       → on_keep t had (rest_of had u c) (told_rest r) ≡ keeping_of t had u c
   keeps_had t e r f = keeps_rest had u c t e spare short r f
 

@@ -17,7 +17,7 @@ use machine::Machine;
 use printing::Line;
 use registers::Registers;
 use replies::Reply;
-use rest::Rested;
+use rest::RestRefusal;
 use std::num::wrapping_add_u64;
 
 // How a slice ended: with the run's reply, or the session has fewer records than were used, or there is no room for the rest.
@@ -139,22 +139,22 @@ fn keep(
     }
     let rested = rest::rest(&session[..size], used, cycles, spare);
     match rested {
-        Rested::Written(n) => {
+        Ok(n) => {
             numbers::copy(&spare[..n], session);
             Kept {
                 ended: SliceEnd::Ran(reply),
                 length: n,
             }
         }
-        Rested::Bad(fault) => Kept {
-            ended: SliceEnd::Ran(replies::refusal(fault)),
+        Err(RestRefusal::Bad(fault)) => Kept {
+            ended: SliceEnd::Ran(Reply::from(fault)),
             length: size,
         },
-        Rested::TooFew => Kept {
+        Err(RestRefusal::TooFew) => Kept {
             ended: SliceEnd::TooFew,
             length: size,
         },
-        Rested::NoRoom => Kept {
+        Err(RestRefusal::NoRoom) => Kept {
             ended: SliceEnd::NoRoom,
             length: size,
         },

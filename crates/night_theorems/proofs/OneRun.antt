@@ -13,7 +13,7 @@ use lib.Seq.{length-take-le, take-append-add, drop-append-add}
 use borrow.Author.Tests.{le-ltb, ltb-false}
 use Rattle.laws.proofs.Conds.{picks, passes}
 use Rattle.session.specs.Session.{check_of}
-use Rattle.session.specs.declared.Checked.TheVariants.{Sound}
+use Rattle.std.specs.Prelude.{Ok}
 use Rattle.replies.specs.Replies.{Told, told}
 use Rattle.machine.specs.declared.Machine.{Machine}
 use Rattle.machine.specs.Machine.{Ranges, ranges_of}
@@ -155,7 +155,7 @@ next s e =
     kept_after s e.world (keeping (told_stop e.stop) (rest_of s.session x.used.0 x.cycles.0))
 
 -- a run that stopped keeps the rest of a sound session
-keeps_rest : (k : Stop) (session : List ℕ) (used cycles : ℕ) → check_of session ≡ Sound → place_of session used ≤ length session
+keeps_rest : (k : Stop) (session : List ℕ) (used cycles : ℕ) → check_of session ≡ Ok tt → place_of session used ≤ length session
     → length (rest_of session used cycles) ≤ length session
     → keeping_of (told_stop k) session used cycles ≡ keeping (told_stop k) (rest_of session used cycles)
 unfolding keeping_of
@@ -211,7 +211,7 @@ joins s e t v leaps inside h g l =
 pub record Good (s : Standing) : Type 0 where
   pub lengths : Lengths s.lent
   pub in_ranges : ranges_of s.machine ≡ true
-  pub sound : check_of s.session ≡ Sound
+  pub sound : check_of s.session ≡ Ok tt
   pub fits : s.sent ≤ length s.lent.output
   pub log_fits : s.logged ≤ length s.lent.log
 
@@ -333,7 +333,7 @@ pub record EndsAs (s : Standing) (e : Ended) : Type 0 where
   pub used : s.used ≡ e.world.state.used.0 % 2 ^ 64
 
 module _ (asked : Terms) (m : Machine) (given : Lent)
-    (lengths : Lengths given) (ranges : Ranges m.chip.bus) (sound : check_of asked.session ≡ Sound) where
+    (lengths : Lengths given) (ranges : Ranges m.chip.bus) (sound : check_of asked.session ≡ Ok tt) where
   -- the slices of N, for any N, end as the boundaries until one stops them, with the limit N, do
   pub slices_one_run : EndsAs (slices_of (night_at (told 0 none) asked m given)) (ran_of asked m given)
   slices_one_run =

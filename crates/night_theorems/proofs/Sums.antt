@@ -12,7 +12,7 @@ use borrow.Author.Tests.{le-ltb, ltb-true}
 use Rattle.laws.proofs.Bools.{both}
 use Rattle.laws.proofs.Conds.{passes}
 use Rattle.session.specs.Session.{check_of}
-use Rattle.session.specs.declared.Checked.TheVariants.{Sound}
+use Rattle.std.specs.Prelude.{Ok}
 use Rattle.wake_log.specs.declared.Row.{Row}
 use Rattle.wake_log.specs.Log.{row_at}
 use Rattle.replies.specs.Replies.{told}
@@ -172,7 +172,7 @@ alone e l = omega arith
 
 -- N as a night is asked it, and a session that a slice holds
 module _ (asked : Terms) (m : Machine) (given : Lent)
-    (lengths : Lengths given) (ranges : Ranges m.chip.bus) (sound : check_of asked.session ≡ Sound)
+    (lengths : Lengths given) (ranges : Ranges m.chip.bus) (sound : check_of asked.session ≡ Ok tt)
     (n-fits : asked.limit < 2 ^ 32) (session-fits : length asked.session < 2 ^ 64) where
   pub slices_sums : SumsAs (slices_of (night_at (told 0 none) asked m given)) asked (ran_of asked m given)
   slices_sums =

@@ -1,10 +1,8 @@
 -- 01's table of replies, and 02's further ones: the number of each, the record that it names, and whether a run stops with it.
-use Rattle.std.specs.Prelude.{ℕ, Bool, ◌||◌, eqb}
+use Rattle.std.specs.Prelude.{ℕ, Bool, ◌||◌, eqb, Result, Ok, Err, ⊤}
 use Rattle.std.proofs.Math.Option.{Option, none, some}
 use Rattle.session.specs.Session.{fault_number, fault_record}
 use Rattle.session.specs.declared.Fault.{Fault}
-use Rattle.session.specs.declared.Checked.{Checked}
-use Rattle.session.specs.declared.Checked.TheVariants.{Sound, Bad}
 use Rattle.replies.specs.declared.Reply.{Reply}
 use Rattle.replies.specs.declared.Reply.TheVariants.{Limit, WrongImage, WrongMachine, WrongLimit, Length, Kind, Value, Time, Undefined, Full}
 use Rattle.replies.specs.declared.Reply.TheVariants.{LogFull, WrongArea}
@@ -35,9 +33,9 @@ told_reply WrongArea = told 12 none
 abbrev pub told_fault : Fault → Told
 told_fault f = told (fault_number f) (some (fault_record f))
 
-abbrev pub told_check : Checked → Option Told
-told_check Sound = none
-told_check (Bad f) = some (told_fault f)
+abbrev pub told_check : Result ⊤ Fault → Option Told
+told_check (Ok x) = none
+told_check (Err f) = some (told_fault f)
 
 -- the replies that a run stops with
 abbrev pub stops : ℕ → Bool

@@ -50,18 +50,8 @@ impl Reply {
         ensures { result ≡ get_or (told_reply self).named 0 }
     {
         match self {
-            Reply::Limit => 0,
-            Reply::WrongImage => 0,
-            Reply::WrongMachine => 0,
-            Reply::WrongLimit => 0,
-            Reply::Length(k) => k,
-            Reply::Kind(k) => k,
-            Reply::Value(k) => k,
-            Reply::Time(k) => k,
-            Reply::Undefined => 0,
-            Reply::Full => 0,
-            Reply::LogFull => 0,
-            Reply::WrongArea => 0,
+            Reply::Length(k) | Reply::Kind(k) | Reply::Value(k) | Reply::Time(k) => k,
+            _ => 0,
         }
     }
 
@@ -69,19 +59,23 @@ impl Reply {
     pub fn is_stop(self) -> bool
         ensures { result ≡ stops (told_reply self).number }
     {
-        let number = self.number();
-        (number == 0) | (number == 8) | (number == 9) | (number == 11)
+        matches!(
+            self,
+            Reply::Limit | Reply::Undefined | Reply::Full | Reply::LogFull
+        )
     }
 }
 
 // The refusal of a session for its fault.
-pub fn refusal(fault: Fault) -> Reply
-    ensures { told_reply result ≡ told_fault fault }
-{
-    match fault {
-        Fault::Length(k) => Reply::Length(k),
-        Fault::Kind(k) => Reply::Kind(k),
-        Fault::Value(k) => Reply::Value(k),
-        Fault::Time(k) => Reply::Time(k),
+impl From<Fault> for Reply {
+    ghost from_gives = { λ fault reply. told_reply reply ≡ told_fault fault };
+
+    fn from(fault: Fault) -> Reply {
+        match fault {
+            Fault::Length(k) => Reply::Length(k),
+            Fault::Kind(k) => Reply::Kind(k),
+            Fault::Value(k) => Reply::Value(k),
+            Fault::Time(k) => Reply::Time(k),
+        }
     }
 }

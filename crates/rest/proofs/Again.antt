@@ -12,7 +12,7 @@ use lib.Seq.{length-take-le, take_at, drop_at, drop-append-add, drop-append_seam
 use borrow.Author.Tests.{ltb-true, ltb-false}
 use Rattle.numbers.specs.Numbers.{four_bytes}
 use Rattle.session.specs.Session.{time_at, next_at, check_of}
-use Rattle.session.specs.declared.Checked.TheVariants.{Sound}
+use Rattle.std.specs.Prelude.{Ok}
 use Rattle.session.proofs.Laws.{next_after}
 use Rattle.rest.specs.Rest.{place_of, shifted_at, rest_from, rest_of}
 use Rattle.rest.specs.Ahead.{SoundFrom}
@@ -140,7 +140,7 @@ data Placed (s : List ℕ) (c from : ℕ) (r : List ℕ) (at to : ℕ) : Type 0 
   inside : (w : List ℕ) → Parted s c from r w at → length w ≡ to → Placed s c from r at to
   past : length s < at → length r < to → Placed s c from r at to
 
-module _ (s : List ℕ) (u c : ℕ) (sound : check_of s ≡ Sound) (within : place_of s u ≤ length s) where
+module _ (s : List ℕ) (u c : ℕ) (sound : check_of s ≡ Ok tt) (within : place_of s u ≤ length s) where
   abbrev from : ℕ
   from = place_of s u
 

@@ -12,8 +12,7 @@ use borrow.Author.Tests.{lt-ltb, le-ltb, ltb-true, ltb-false}
 use Rattle.session.specs.Session.{check_of}
 use Rattle.session.specs.declared.Fault.{Fault}
 use Rattle.session.specs.declared.Fault.TheVariants.{Length, Kind, Value, Time}
-use Rattle.session.specs.declared.Checked.{Checked}
-use Rattle.session.specs.declared.Checked.TheVariants.{Sound, Bad}
+use Rattle.std.specs.Prelude.{Result, Ok, Err, ⊤}
 use Rattle.replies.specs.Replies.{Told, told, told_fault}
 use Rattle.replies.proofs.Known.{fault_known}
 use Rattle.rest.specs.Rest.{place_of, has_fewer, rest_of}
@@ -56,31 +55,31 @@ module _ (s : List ℕ) (used cycles : ℕ) (b : List ℕ) where
 
   -- each way that the call can go
   pub answer_cases : (P : RestReply → Type 0)
-      → ((f : Fault) → check_of s ≡ Bad f → P (refuses (told_fault f)))
-      → (check_of s ≡ Sound → length s < place_of s used → P (refuses (told 30 none)))
-      → (check_of s ≡ Sound → place_of s used ≤ length s → length b < length rest → P (refuses (told 31 none)))
-      → (check_of s ≡ Sound → place_of s used ≤ length s → length rest ≤ length b → P (rest_wrote (length rest)))
+      → ((f : Fault) → check_of s ≡ Err f → P (refuses (told_fault f)))
+      → (check_of s ≡ Ok tt → length s < place_of s used → P (refuses (told 30 none)))
+      → (check_of s ≡ Ok tt → place_of s used ≤ length s → length b < length rest → P (refuses (told 31 none)))
+      → (check_of s ≡ Ok tt → place_of s used ≤ length s → length rest ≤ length b → P (rest_wrote (length rest)))
       → P (rest_answer s used cycles b)
   unfolding has_fewer
   answer_cases P p q u v = by (check_of s) refl (ltb (length s) (place_of s used)) refl (ltb (length b) (length rest)) refl
     where
-      by : (c : Checked) → check_of s ≡ c → (fewer : Bool) → ltb (length s) (place_of s used) ≡ fewer
+      by : (c : Result ⊤ Fault) → check_of s ≡ c → (fewer : Bool) → ltb (length s) (place_of s used) ≡ fewer
           → (short : Bool) → ltb (length b) (length rest) ≡ short → P (rest_answer s used cycles b)
-      by (Bad k) e fewer f short g = subst P (sym (answers (refused_bad s used cycles b k e))) (p k e)
-      by Sound e true f short g = subst P (sym (answers (refused_30 s used cycles b e f))) (q e (ltb-true _ _ f))
-      by Sound e false f true g =
+      by (Err k) e fewer f short g = subst P (sym (answers (refused_bad s used cycles b k e))) (p k e)
+      by (Ok x) e true f short g = subst P (sym (answers (refused_30 s used cycles b e f))) (q e (ltb-true _ _ f))
+      by (Ok x) e false f true g =
           let l = ltb-true _ _ g in
           subst P (sym (answers (refused_31 s used cycles b e f l))) (u e (ltb-false _ _ f) l)
-      by Sound e false f false g =
+      by (Ok x) e false f false g =
           let l = ltb-false _ _ g in
           subst P (sym (answers (not_refused s used cycles b e f l))) (v e (ltb-false _ _ f) l)
 
   -- 4 to 7 exactly where the session's check says so
-  pub rest_4_to_7 : (f : Fault) → Answers (refuses (told_fault f)) ↔ (check_of s ≡ Bad f)
+  pub rest_4_to_7 : (f : Fault) → Answers (refuses (told_fault f)) ↔ (check_of s ≡ Err f)
   rest_4_to_7 f =
       let k = fault_numbers f in (
-        answer_cases (λ a. a ≡ refuses (told_fault f) → check_of s ≡ Bad f)
-            (λ d e g. e ∙ ap Bad (fault_known d f (ap reply g)))
+        answer_cases (λ a. a ≡ refuses (told_fault f) → check_of s ≡ Err f)
+            (λ d e g. e ∙ ap Err (fault_known d f (ap reply g)))
             (λ e h g. apart g (λ n. omega (arith, n, k.1)))
             (λ e h l g. apart g (λ n. omega (arith, n, k.1)))
             (λ e h l g. apart g (λ n. omega (arith, n, k.0))),
@@ -88,10 +87,10 @@ module _ (s : List ℕ) (used cycles : ℕ) (b : List ℕ) where
       )
 
   -- 30 exactly where the session is sound and has fewer records
-  pub rest_30 : Answers (refuses (told 30 none)) ↔ ((check_of s ≡ Sound) × (length s < place_of s used))
+  pub rest_30 : Answers (refuses (told 30 none)) ↔ ((check_of s ≡ Ok tt) × (length s < place_of s used))
   unfolding has_fewer
   rest_30 = (
-    answer_cases (λ a. a ≡ refuses (told 30 none) → (check_of s ≡ Sound) × (length s < place_of s used))
+    answer_cases (λ a. a ≡ refuses (told 30 none) → (check_of s ≡ Ok tt) × (length s < place_of s used))
         (λ d e g. apart g (λ n. let k = (fault_numbers d).1 in omega (arith, n, k)))
         (λ e h g. (e, h))
         (λ e h l g. apart g (λ n. omega arith))
@@ -100,10 +99,10 @@ module _ (s : List ℕ) (used cycles : ℕ) (b : List ℕ) where
   )
 
   -- 31 exactly where it has as many, and the buffer is shorter than the rest
-  pub rest_31 : Answers (refuses (told 31 none)) ↔ ((check_of s ≡ Sound) × (place_of s used ≤ length s) × (length b < length rest))
+  pub rest_31 : Answers (refuses (told 31 none)) ↔ ((check_of s ≡ Ok tt) × (place_of s used ≤ length s) × (length b < length rest))
   unfolding has_fewer
   rest_31 = (
-    answer_cases (λ a. a ≡ refuses (told 31 none) → (check_of s ≡ Sound) × (place_of s used ≤ length s) × (length b < length rest))
+    answer_cases (λ a. a ≡ refuses (told 31 none) → (check_of s ≡ Ok tt) × (place_of s used ≤ length s) × (length b < length rest))
         (λ d e g. apart g (λ n. let k = (fault_numbers d).1 in omega (arith, n, k)))
         (λ e h g. apart g (λ n. omega arith))
         (λ e h l g. (e, h, l))
@@ -113,7 +112,7 @@ module _ (s : List ℕ) (used cycles : ℕ) (b : List ℕ) where
 
   -- it is written exactly where the session is sound, has as many, and the buffer has room; and is then as long as it is
   abbrev Room : Type 0
-  Room = (check_of s ≡ Sound) × (place_of s used ≤ length s) × (length rest ≤ length b)
+  Room = (check_of s ≡ Ok tt) × (place_of s used ≤ length s) × (length rest ≤ length b)
 
   free : Room → rest_refusal s used cycles b ≡ none
   unfolding has_fewer

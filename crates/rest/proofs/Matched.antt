@@ -14,7 +14,7 @@ use Rattle.laws.proofs.Orders.{leb_shifted}
 use Rattle.numbers.specs.Numbers.{four_bytes}
 use Rattle.numbers.proofs.Laws.{four_back}
 use Rattle.session.specs.Session.{length_at, kind_at, time_at, payload_at, next_at, event_at, due_at, cut_short, check_from, check_of}
-use Rattle.session.specs.declared.Checked.TheVariants.{Sound}
+use Rattle.std.specs.Prelude.{Ok}
 use Rattle.session.proofs.Laws.{due_there, Found, told_fault_lem, check_past, check_ends}
 use Rattle.rest.specs.Rest.{shifted_at, rest_from}
 use Rattle.rest.specs.Ahead.{SoundFrom}
@@ -225,8 +225,8 @@ module _ (s : List ℕ) (c from : ℕ) where
     due_goes (goes h k m) n e = (k, m)
 
     -- the tests of a record say the same of it
-    faultless : (at number before i earlier : ℕ) → Alike s r c from at → Found s number before (from + at) Sound → before ≤ time_at s (from + at)
-        → earlier ≤ before - c → Found r i earlier at Sound
+    faultless : (at number before i earlier : ℕ) → Alike s r c from at → Found s number before (from + at) (Ok tt) → before ≤ time_at s (from + at)
+        → earlier ≤ before - c → Found r i earlier at (Ok tt)
     unfolding cut_short
     faultless at number before i earlier k g l q =
         let e : length r - at ≡ length s - (from + at) = omega arith in (
@@ -237,19 +237,19 @@ module _ (s : List ℕ) (c from : ℕ) where
           rw k.times (le-ltb (time_at s (from + at) - c) earlier (let z : earlier ≤ time_at s (from + at) - c = omega arith in z)),
         )
 
-    sound_there : {at : ℕ} → Matched s r c from at → (number before i earlier : ℕ) → earlier ≤ before - c → check_from s number before (from + at) ≡ Sound
-        → check_from r i earlier at ≡ Sound
+    sound_there : {at : ℕ} → Matched s r c from at → (number before i earlier : ℕ) → earlier ≤ before - c → check_from s number before (from + at) ≡ Ok tt
+        → check_from r i earlier at ≡ Ok tt
     sound_there {at} (over h) number before i earlier q e = check_ends r i earlier at (omega arith)
     sound_there {at} (goes h k m) number before i earlier q e =
         let w = whole s number before (from + at) h e in
         let t = k.times in
-        let f = told_fault_lem r i earlier at Sound (faultless at number before i earlier k w.faultless w.later q) in
+        let f = told_fault_lem r i earlier at (Ok tt) (faultless at number before i earlier k w.faultless w.later q) in
         check_past r i earlier at (omega arith) f
         ∙ sound_there m (number + 1) (time_at s (from + at)) (i + 1) (time_at r at) (omega arith)
         (ap (check_from s (number + 1) (time_at s (from + at))) (sym (next_there r at k)) ∙ w.rest)
 
   -- so that a sound session's rest is sound
-  pub rest_sound : SoundFrom s from → check_of (rest_from s c from []) ≡ Sound
+  pub rest_sound : SoundFrom s from → check_of (rest_from s c from []) ≡ Ok tt
   rest_sound a =
       let n = rest_length s c from a in
       let w = a.within in

@@ -1,10 +1,10 @@
 -- What the call `rest` answers, and what it leaves in the buffer that it was lent, for all inputs.
-use Rattle.std.specs.Prelude.{ℕ, cond, List, ◌++◌, ltb, length, drop}
+use Rattle.std.specs.Prelude.{ℕ, cond, List, ◌++◌, ltb, length, drop, Result, Ok, Err}
 use Rattle.std.proofs.Math.Option.{Option, none, some}
 use Rattle.session.specs.Session.{check_of}
 use Rattle.replies.specs.Replies.{Told, told, told_fault, told_check}
-use Rattle.rest.specs.declared.Rested.{Rested}
-use Rattle.rest.specs.declared.Rested.TheVariants.{Written, Bad, TooFew, NoRoom}
+use Rattle.rest.specs.declared.RestRefusal.{RestRefusal}
+use Rattle.rest.specs.declared.RestRefusal.TheVariants.{Bad, TooFew, NoRoom}
 use Rattle.rest.specs.Rest.{has_fewer, rest_of}
 
 -- the rest was written, and is so many bytes long; or a reply's number, with the record that 4 to 7 name
@@ -12,11 +12,11 @@ pub data RestReply : Type 0 where
   rest_wrote : ℕ → RestReply
   refuses : Told → RestReply
 
-abbrev pub told_rest : Rested → RestReply
-told_rest (Written n) = rest_wrote n
-told_rest (Bad f) = refuses (told_fault f)
-told_rest TooFew = refuses (told 30 none)
-told_rest NoRoom = refuses (told 31 none)
+abbrev pub told_rest : Result ℕ RestRefusal → RestReply
+told_rest (Ok n) = rest_wrote n
+told_rest (Err (Bad f)) = refuses (told_fault f)
+told_rest (Err TooFew) = refuses (told 30 none)
+told_rest (Err NoRoom) = refuses (told 31 none)
 
 -- the first refusal, and else the second, where there is one
 abbrev pub first_of : Option Told → Option Told → Option Told

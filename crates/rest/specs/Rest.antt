@@ -1,11 +1,8 @@
 -- The rest of a session: what is left of it for a second run after a run that used its first records and passed some cycles.
-use Rattle.std.specs.Prelude.{ℕ, zero, suc, ◌+◌, ◌-◌, Bool, cond, List, [], ◌++◌, ltb, length, take, drop}
-use Rattle.std.proofs.Math.Option.{Option, none, some}
+use Rattle.std.specs.Prelude.{ℕ, zero, suc, ◌+◌, ◌-◌, Bool, cond, List, [], ◌++◌, ltb, length, take, drop, Option, Some, None}
 use Rattle.numbers.specs.Numbers.{four_bytes}
 use Rattle.turns.specs.Turn.{Turn, more, done, loop_of}
 use Rattle.session.specs.Session.{time_at, next_at}
-use Rattle.rest.specs.declared.Skipped.{Skipped}
-use Rattle.rest.specs.declared.Skipped.TheVariants.{At, Fewer}
 
 -- where record k begins, counted from 0: where the k records before it end
 unfoldable pub place_of : List ℕ → ℕ → ℕ
@@ -18,11 +15,7 @@ has_fewer session k = ltb (length session) (place_of session k)
 
 -- where the records after the first k begin, where it has so many
 unfoldable pub skip_of : List ℕ → ℕ → Option ℕ
-skip_of session k = cond (has_fewer session k) none (some (place_of session k))
-
-abbrev pub skipped : Skipped → Option ℕ
-skipped (At at) = some at
-skipped Fewer = none
+skip_of session k = cond (has_fewer session k) None (Some (place_of session k))
 
 -- the record at a place, its time less the cycles that have passed, and 0 where that would be below 0: length and kind, the time, the payload
 unfoldable pub shifted_at : List ℕ → ℕ → ℕ → List ℕ

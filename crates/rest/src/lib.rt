@@ -1,42 +1,38 @@
 // The rest of a session after a run: the records that it did not use, their times less the cycles that it passed.
 #![tactic(auto)]
 
-ghost use Rattle.std.specs.Prelude.{◌≡◌, [], ◌++◌, ◌+◌, ◌-◌, ◌≤◌, length, drop};
+ghost use Rattle.std.specs.Prelude.{◌≡◌, [], ◌++◌, ◌+◌, ◌-◌, ◌≤◌, length, drop, Ok};
 ghost use Rattle.std.proofs.lemmas.List.Edits.{sets};
 ghost use Rattle.session.specs.Session.{next_at, check_of};
-ghost use Rattle.session.specs.declared.Checked.TheVariants.{Sound};
-ghost use Rattle.rest.specs.Rest.{skip_of, skipped, shifted_at, rest_from};
+ghost use Rattle.rest.specs.Rest.{skip_of, shifted_at, rest_from};
 ghost use Rattle.rest.specs.Ahead.{SoundFrom};
+ghost use Rattle.rest.specs.declared.RestRefusal.TheVariants.{Bad};
 ghost use Rattle.rest.specs.Answers.{told_rest, rest_answer, rest_buffer};
 
 use counts::{Cycles, Records};
-use session::{Checked, Fault};
+use session::Fault;
 
-// The rest was written and is so long; or the session is bad; or it has fewer records than were used; or the buffer is
-// shorter than the rest.
+// Why there is no rest: the session is bad; or it has fewer records than were used; or the buffer is shorter than the rest.
 #[derive(Clone, Copy)]
-pub enum Rested {
-    Written(usize),
+pub enum RestRefusal {
     Bad(Fault),
     TooFew,
     NoRoom,
 }
 
-// Where the first unused record stands, or that there are not so many.
-#[derive(Clone, Copy)]
-enum Skipped {
-    At(usize),
-    Fewer,
+impl From<Fault> for RestRefusal {
+    ghost from_gives = { λ fault refusal. refusal ≡ Bad fault };
+
+    fn from(fault: Fault) -> RestRefusal {
+        RestRefusal::Bad(fault)
+    }
 }
 
 // A time less the cycles that have passed, and 0 where that would be below 0.
 fn time_left(time: u32, cycles: Cycles) -> u32
     ensures { result ≡ time - cycles.0 }
 {
-    if time <= cycles.0 {
-        return 0;
-    }
-    time - cycles.0
+    time.saturating_sub(cycles.0)
 }
 
 // The record at a place, its time less the cycles, is stored from a place of the buffer on.
@@ -66,51 +62,41 @@ fn copy_records(session: &[u8], from: usize, cycles: Cycles, buffer: &mut [u8])
     }
 }
 
-// The place after the records that were used.
-fn skip(session: &[u8], used: Records) -> Skipped
-    requires { check_of session.now ≡ Sound }
-    ensures { skipped result ≡ skip_of session.now used.0 }
+// The place after the records that were used, where there are so many.
+fn skip(session: &[u8], used: Records) -> Option<usize>
+    requires { check_of session.now ≡ Ok tt }
+    ensures { result ≡ skip_of session.now used.0 }
 {
     let mut at = 0;
-    let mut passed = 0;
-    while passed < used.0 {
+    for _ in 0..used.0 {
         if session.len() <= at {
-            return Skipped::Fewer;
+            return None;
         }
         at = session::next_at(session, at);
-        passed = passed + 1;
     }
-    Skipped::At(at)
+    Some(at)
 }
 
 // The rest of a sound session.
-fn write_rest(session: &[u8], used: Records, cycles: Cycles, buffer: &mut [u8]) -> Rested
-    requires { check_of session.now ≡ Sound }
+fn write_rest(session: &[u8], used: Records, cycles: Cycles, buffer: &mut [u8]) -> Result<usize, RestRefusal>
+    requires { check_of session.now ≡ Ok tt }
     ensures { (told_rest result ≡ rest_answer session.now used.0 cycles.0 buffer.old)
         × (buffer.new ≡ rest_buffer session.now used.0 cycles.0 buffer.old) }
 {
-    let skipped = skip(session, used);
-    match skipped {
-        Skipped::Fewer => Rested::TooFew,
-        Skipped::At(at) => {
-            let left = session.len() - at;
-            if buffer.len() < left {
-                return Rested::NoRoom;
-            }
-            copy_records(session, at, cycles, buffer);
-            Rested::Written(left)
-        }
+    let at = skip(session, used).ok_or(RestRefusal::TooFew)?;
+    let left = session.len() - at;
+    if buffer.len() < left {
+        return Err(RestRefusal::NoRoom);
     }
+    copy_records(session, at, cycles, buffer);
+    Ok(left)
 }
 
-// The rest of a session, of which so many records were used in so many cycles, is written to the buffer's front.
-pub fn rest(session: &[u8], used: Records, cycles: Cycles, buffer: &mut [u8]) -> Rested
+// The rest of a session, of which so many records were used in so many cycles, is written to the buffer's front: how long it is, or why there is none.
+pub fn rest(session: &[u8], used: Records, cycles: Cycles, buffer: &mut [u8]) -> Result<usize, RestRefusal>
     ensures { (told_rest result ≡ rest_answer session.now used.0 cycles.0 buffer.old)
         × (buffer.new ≡ rest_buffer session.now used.0 cycles.0 buffer.old) }
 {
-    let checked = session::check(session);
-    match checked {
-        Checked::Sound => write_rest(session, used, cycles, buffer),
-        Checked::Bad(fault) => Rested::Bad(fault),
-    }
+    session::check(session)?;
+    write_rest(session, used, cycles, buffer)
 }

@@ -15,7 +15,7 @@ ghost use Rattle.boundary.specs.Boundary.{run_of};
 ghost use Rattle.boundary.specs.Counts.{Fine, Fits};
 ghost use Rattle.run.specs.Leaps.{is_due, First, stirs, AfterLeap, strode_of, Paced};
 
-use boundary::{Grown, Progress, State, Stop, Watch};
+use boundary::{Grown, State, Stop, Watch};
 use chip::Chip;
 use counts::{Cycles, Entries, Instructions, Leaps};
 use machine::Machine;
@@ -227,18 +227,12 @@ pub fn run(
     let mut s = start;
     loop {
         let t = s.boundary(session, n, watch, image, area, output, log);
-        let next = t.state;
-        let progress = t.progress;
-        match progress {
-            Progress::Going => {
-                s = pace(leaping, session, n, next, image);
-            }
-            Progress::Stopped(stop) => {
-                return Outcome {
-                    stop: stop,
-                    state: next,
-                };
-            }
+        if let Some(stop) = t.stop {
+            return Outcome {
+                stop,
+                state: t.state,
+            };
         }
+        s = pace(leaping, session, n, t.state, image);
     }
 }

@@ -8,11 +8,11 @@ pub returns-then-res-lt8 : goal.returns-then-res-lt8
 returns-then-res-lt8 c = let a = c.args in
     rest_short a.session.now a.used.0 a.cycles.0 a.buffer.now a.res.now c.if-res-lt8.true
 
-pub returns-in-Written : goal.returns-in-Written
-returns-in-Written c = let a = c.args in
+pub returns-in-Ok : goal.returns-in-Ok
+returns-in-Ok c = let a = c.args in
     returned_told _ a.res.now _ _ c.tell.ensures
     ∙ rest_left a.session.now a.used.0 a.cycles.0 a.buffer.now a.res.now _
-    c.if-res-lt8.false c.rest-left.ensures c.in-Written.is
+    c.if-res-lt8.false c.rest-left.ensures c.in-Ok.is
 
 pub returns-in-Bad : goal.returns-in-Bad
 returns-in-Bad c = let a = c.args in

@@ -2,7 +2,8 @@
 use Rattle.std.proofs.Common.{◌≡◌, true, length, take, sym, ap, ◌∙◌, arith, length-take-le}
 use Rattle.replies.specs.Replies.{Told, told_reply, stops}
 use Rattle.rest.specs.Answers.{rest_wrote, told_rest, rest_answer}
-use Rattle.rest.specs.declared.Rested.TheVariants.{Written, Bad, TooFew, NoRoom}
+use Rattle.std.specs.Prelude.{Ok, Err}
+use Rattle.rest.specs.declared.RestRefusal.TheVariants.{Bad, TooFew, NoRoom}
 use Rattle.night_slices.specs.Slices.{keeping}
 use Rattle.night_slices.proofs.Keeping.{written_stands, keeps_refused, keeps_had, written_size, written_within, written_room}
 use Rattle.night_slices.proofs.keep.Goals as goal
@@ -18,14 +19,14 @@ pub slice_bounds-copy-end : goal.slice_bounds-copy-end
 slice_bounds-copy-end c =
     let a = c.args in
     let p = c.requires in
-    let e : rest_wrote c.in-Written.n ≡ rest_answer (take a.size a.session.now) a.used.0 a.cycles.0 a.spare.now = sym (ap told_rest c.in-Written.is) ∙ c.rest-rested.ensures.0 in
+    let e : rest_wrote c.in-Ok.n ≡ rest_answer (take a.size a.session.now) a.used.0 a.cycles.0 a.spare.now = sym (ap told_rest c.in-Ok.is) ∙ c.rest-rested.ensures.0 in
     written_within a.size a.session.now a.spare.now p.0 p.1 a.used.0 a.cycles.0 e c.rest-rested.new.buffer c.rest-rested.auto.buffer
 
-pub slice_bounds-copy-end-in-Written : goal.slice_bounds-copy-end-in-Written
-slice_bounds-copy-end-in-Written c =
+pub slice_bounds-copy-end-in-Ok : goal.slice_bounds-copy-end-in-Ok
+slice_bounds-copy-end-in-Ok c =
     let a = c.args in
     let p = c.requires in
-    let e : rest_wrote c.in-Written.n ≡ rest_answer (take a.size a.session.now) a.used.0 a.cycles.0 a.spare.now = sym (ap told_rest c.in-Written.is) ∙ c.rest-rested.ensures.0 in
+    let e : rest_wrote c.in-Ok.n ≡ rest_answer (take a.size a.session.now) a.used.0 a.cycles.0 a.spare.now = sym (ap told_rest c.in-Ok.is) ∙ c.rest-rested.ensures.0 in
     sym (length-take-le _ c.rest-rested.new.buffer
     (written_within a.size a.session.now a.spare.now p.0 p.1 a.used.0 a.cycles.0 e c.rest-rested.new.buffer c.rest-rested.auto.buffer))
 
@@ -33,18 +34,18 @@ pub copy-requires : goal.copy-requires
 copy-requires c =
     let a = c.args in
     let p = c.requires in
-    let e : rest_wrote c.in-Written.n ≡ rest_answer (take a.size a.session.now) a.used.0 a.cycles.0 a.spare.now = sym (ap told_rest c.in-Written.is) ∙ c.rest-rested.ensures.0 in
+    let e : rest_wrote c.in-Ok.n ≡ rest_answer (take a.size a.session.now) a.used.0 a.cycles.0 a.spare.now = sym (ap told_rest c.in-Ok.is) ∙ c.rest-rested.ensures.0 in
     written_room a.size a.session.now a.spare.now p.0 p.1 a.used.0 a.cycles.0 e c.rest-rested.new.buffer
 
-pub returns-in-Written : goal.returns-in-Written
-returns-in-Written c =
+pub returns-in-Ok : goal.returns-in-Ok
+returns-in-Ok c =
     let a = c.args in
     let p = c.requires in
     let had = take a.size a.session.now in
     let stopped : stops (told_reply a.reply).number ≡ true = sym c.is_stop.ensures ∙ c.if-not-is_stop.false in
-    let e : rest_wrote c.in-Written.n ≡ rest_answer (take a.size a.session.now) a.used.0 a.cycles.0 a.spare.now = sym (ap told_rest c.in-Written.is) ∙ c.rest-rested.ensures.0 in (
+    let e : rest_wrote c.in-Ok.n ≡ rest_answer (take a.size a.session.now) a.used.0 a.cycles.0 a.spare.now = sym (ap told_rest c.in-Ok.is) ∙ c.rest-rested.ensures.0 in (
       ap (keeping (told_reply a.reply)) (written_stands had a.used.0 a.cycles.0 a.spare.now e a.session.now c.rest-rested.ensures.1 c.copy.ensures)
-          ∙ keeps_had a.size a.session.now a.spare.now p.0 p.1 a.used.0 a.cycles.0 (told_reply a.reply) stopped (Written _) e,
+          ∙ keeps_had a.size a.session.now a.spare.now p.0 p.1 a.used.0 a.cycles.0 (told_reply a.reply) stopped (Ok _) e,
       written_size a.size a.session.now a.spare.now p.0 p.1 a.used.0 a.cycles.0 e,
     )
 
@@ -55,7 +56,7 @@ returns-in-Bad c =
     let had = take a.size a.session.now in
     let stopped : stops (told_reply a.reply).number ≡ true = sym c.is_stop.ensures ∙ c.if-not-is_stop.false in (
       ap (λ (t : Told). keeping t had) c.refusal.ensures
-          ∙ keeps_had a.size a.session.now a.spare.now p.0 p.1 a.used.0 a.cycles.0 (told_reply a.reply) stopped (Bad c.in-Bad.fault) (sym (ap told_rest c.in-Bad.is) ∙ c.rest-rested.ensures.0),
+          ∙ keeps_had a.size a.session.now a.spare.now p.0 p.1 a.used.0 a.cycles.0 (told_reply a.reply) stopped (Err (Bad c.in-Bad.fault)) (sym (ap told_rest c.in-Bad.is) ∙ c.rest-rested.ensures.0),
       omega arith,
     )
 
@@ -65,7 +66,7 @@ returns-in-TooFew c =
     let p = c.requires in
     let had = take a.size a.session.now in
     let stopped : stops (told_reply a.reply).number ≡ true = sym c.is_stop.ensures ∙ c.if-not-is_stop.false in
-    (keeps_had a.size a.session.now a.spare.now p.0 p.1 a.used.0 a.cycles.0 (told_reply a.reply) stopped TooFew (sym (ap told_rest c.in-TooFew.is) ∙ c.rest-rested.ensures.0), omega arith)
+    (keeps_had a.size a.session.now a.spare.now p.0 p.1 a.used.0 a.cycles.0 (told_reply a.reply) stopped (Err TooFew) (sym (ap told_rest c.in-TooFew.is) ∙ c.rest-rested.ensures.0), omega arith)
 
 pub returns-in-NoRoom : goal.returns-in-NoRoom
 returns-in-NoRoom c =
@@ -73,4 +74,4 @@ returns-in-NoRoom c =
     let p = c.requires in
     let had = take a.size a.session.now in
     let stopped : stops (told_reply a.reply).number ≡ true = sym c.is_stop.ensures ∙ c.if-not-is_stop.false in
-    (keeps_had a.size a.session.now a.spare.now p.0 p.1 a.used.0 a.cycles.0 (told_reply a.reply) stopped NoRoom (sym (ap told_rest c.in-NoRoom.is) ∙ c.rest-rested.ensures.0), omega arith)
+    (keeps_had a.size a.session.now a.spare.now p.0 p.1 a.used.0 a.cycles.0 (told_reply a.reply) stopped (Err NoRoom) (sym (ap told_rest c.in-NoRoom.is) ∙ c.rest-rested.ensures.0), omega arith)

@@ -2,8 +2,9 @@
 use Rattle.std.proofs.Common.{◌≡◌, sym, ◌∙◌, ap, arith}
 use Rattle.turns.specs.Turn.{more}
 use Rattle.boundary.specs.World.{lending, watching, world_of}
-use Rattle.boundary.specs.Boundary.{progress_turn, boundary_of}
-use Rattle.boundary.specs.declared.Progress.{Progress}
+use Rattle.boundary.specs.Boundary.{stop_turn, boundary_of}
+use Rattle.std.specs.Prelude.{Option}
+use Rattle.boundary.specs.declared.Stop.{Stop}
 use Rattle.boundary.proofs.Runs.{run_more, run_done, run_fine, run_falls}
 use Rattle.run.proofs.run.Goals as goal
 
@@ -15,7 +16,7 @@ pace-s-requires c =
     let asked = watching a.session.now a.n a.watch in
     let here = world_of l.s (lending l.image l.area l.output l.log) in
     let there = world_of b.result.state (lending b.new.image b.new.area b.new.output b.new.log) in
-    let went : boundary_of asked here ≡ more there = sym b.ensures ∙ ap (λ (p : Progress). progress_turn p there) c.in-Going.is in
+    let went : boundary_of asked here ≡ more there = sym b.ensures ∙ ap (λ (p : Option Stop). stop_turn p there) c.in-Going.is in
     (run_fine asked here _ l.invariant.0 went, c.requires.1)
 
 pub loop-image-smaller : goal.loop-image-smaller
@@ -26,7 +27,7 @@ loop-image-smaller c =
     let asked = watching a.session.now a.n a.watch in
     let here = world_of l.s (lending l.image l.area l.output l.log) in
     let there = world_of b.result.state (lending b.new.image b.new.area b.new.output b.new.log) in
-    let went : boundary_of asked here ≡ more there = sym b.ensures ∙ ap (λ (p : Progress). progress_turn p there) c.in-Going.is in
+    let went : boundary_of asked here ≡ more there = sym b.ensures ∙ ap (λ (p : Option Stop). stop_turn p there) c.in-Going.is in
     let f = run_falls asked here _ went in
     let g = (c.pace-s.ensures a.watch).1 in
     omega arith
@@ -39,7 +40,7 @@ loop-image-preserved c =
     let asked = watching a.session.now a.n a.watch in
     let here = world_of l.s (lending l.image l.area l.output l.log) in
     let there = world_of b.result.state (lending b.new.image b.new.area b.new.output b.new.log) in
-    let went : boundary_of asked here ≡ more there = sym b.ensures ∙ ap (λ (p : Progress). progress_turn p there) c.in-Going.is in
+    let went : boundary_of asked here ≡ more there = sym b.ensures ∙ ap (λ (p : Option Stop). stop_turn p there) c.in-Going.is in
     let v = l.invariant in
     let p = c.pace-s in
     let e = p.ensures a.watch in (
@@ -59,5 +60,5 @@ returns-in-Stopped c =
     let asked = watching a.session.now a.n a.watch in
     let here = world_of l.s (lending l.image l.area l.output l.log) in
     let there = world_of b.result.state (lending b.new.image b.new.area b.new.output b.new.log) in
-    let stopped = sym b.ensures ∙ ap (λ (p : Progress). progress_turn p there) c.in-Stopped.is in
+    let stopped = sym b.ensures ∙ ap (λ (p : Option Stop). stop_turn p there) c.in-Stopped.is in
     sym (l.invariant.1 ∙ run_done asked here stopped)

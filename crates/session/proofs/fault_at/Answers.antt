@@ -13,5 +13,5 @@ returns c = rw (
   c.time_at-time.ensures,
   c.two_at-kind.ensures,
   c.two_at-said.ensures,
-  c.is_cut_short-short.ensures,
+  c.is_cut_short.ensures,
 )

@@ -7,6 +7,6 @@ pub returns-then-left-lt2 : goal.returns-then-left-lt2
 unfolding cut_short length_at
 returns-then-left-lt2 c = rw (lt-ltb _ _ c.if-left-lt2.true)
 
-pub returns : goal.returns
+pub returns-else-left-lt2 : goal.returns-else-left-lt2
 unfolding cut_short length_at
-returns c = rw (le-ltb _ _ c.if-left-lt2.false, c.two_at-said.ensures)
+returns-else-left-lt2 c = rw (le-ltb _ _ c.if-left-lt2.false, c.two_at-said.ensures)

@@ -3,10 +3,10 @@ use borrow.Author.Tests.{le-ltb, lt-ltb}
 use Rattle.session.specs.Session.{due_at}
 use Rattle.session.proofs.is_due.Goals as goal
 
-pub returns-then-session-at : goal.returns-then-session-at
+pub returns-then-at-session : goal.returns-then-at-session
 unfolding due_at
-returns-then-session-at c = rw (le-ltb _ _ c.if-session-at.true)
+returns-then-at-session c = rw (lt-ltb _ _ c.if-at-session.true, c.time_at.ensures)
 
-pub returns : goal.returns
+pub returns-else-at-session : goal.returns-else-at-session
 unfolding due_at
-returns c = rw (lt-ltb _ _ c.if-session-at.false, c.time_at.ensures)
+returns-else-at-session c = rw (le-ltb _ _ c.if-at-session.false)
