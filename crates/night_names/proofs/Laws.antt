@@ -3,7 +3,6 @@ use Prim.Native.Nat.{ℕ, ◌+◌, ◌-◌, ◌≤◌, ◌<◌}
 use native.Mathlib.Numerals.{add-one}
 use native.Mathlib.Omega.{arith}
 use mathlib.Core.List.{List}
-use mathlib.Core.Logic.{◌≢◌}
 use mathlib.Core.Path.{◌≡◌, refl, sym, ap, ◌∙◌}
 use lib.Dec.{eqb}
 use lib.ListN.{length, get_or, take, drop, drop_of_length-le}
@@ -50,6 +49,3 @@ pub work_is : (state folder place : List ℕ) (room : ℕ) {a size : ℕ} {front
     → joined_of front (take (length place - a) (drop a place)) room ≡ work_of state folder place room
 unfolding work_of
 work_is state folder place room e s h = rw (h, ← s, e, take_rest (last_at place) place)
-
-pub last_file : (i : ℕ) → i ≤ 4 → i ≢ 0 → i ≢ 1 → i ≢ 2 → i ≢ 3 → i ≡ 4
-last_file i h a b c d = omega arith

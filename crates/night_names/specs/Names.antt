@@ -1,7 +1,8 @@
 -- The names of a night's files.
-use Rattle.std.specs.Prelude.{ℕ, ◌+◌, ◌-◌, Bool, true, false, not, ◌&&◌, ◌||◌, cond, List, [], ◌∷◌, eqb, ltb, leb, length, take, drop, get_or}
+use Rattle.std.specs.Prelude.{ℕ, ◌+◌, ◌-◌, Bool, not, ◌&&◌, ◌||◌, cond, List, [], ◌∷◌, eqb, ltb, leb, length, take, drop, get_or, bytes_eq}
+use Rattle.std.specs.List.{slice_split, list_all, list_any}
 use Rattle.printing.specs.Printing.{ascii}
-use Rattle.night_arguments.specs.Arguments.{same_of, joined_of}
+use Rattle.night_arguments.specs.Arguments.{joined_of}
 
 -- where a name's last part begins, after its last `/` (47): i bytes are looked at, and it begins at `at` as far as these tell
 abbrev pub begins_at : ℕ → ℕ → ℕ → ℕ
@@ -27,38 +28,33 @@ is_place name = (ltb (last_at name) (length name) && leb (length name) 3833) && 
 
 -- "in one folder": the same text up to the last `/`
 unfoldable pub is_beside : List ℕ → List ℕ → Bool
-is_beside name state = same_of (folder_of name) (folder_of state)
+is_beside name state = bytes_eq (folder_of name) (folder_of state)
 
 -- a name is STATE with an ending
 unfoldable pub is_with : List ℕ → List ℕ → List ℕ → Bool
-is_with name state ending = same_of name (joined_of state ending 4096)
+is_with name state ending = bytes_eq name (joined_of state ending 4096)
 
 -- a name is STATE, or one of the names that a night makes of it
 unfoldable pub is_of_state : List ℕ → List ℕ → Bool
 is_of_state name state =
-    ((((same_of name state || is_with name state (ascii ".rest")) || is_with name state (ascii ".names")) || is_with name state (ascii ".area"))
+    ((((bytes_eq name state || is_with name state (ascii ".rest")) || is_with name state (ascii ".names")) || is_with name state (ascii ".area"))
     || is_with name state (ascii ".night")) || is_with name state (ascii ".done")
 
 -- SESSION has a name, and is none of the night's other files; that it is STATE.rest is how a night goes on
 unfoldable pub is_read : List ℕ → List ℕ → List ℕ → List ℕ → Bool
 is_read session image state output =
-    ((ltb 0 (length session) && not (same_of session image)) && not (same_of session output))
+    ((ltb 0 (length session) && not (bytes_eq session image)) && not (bytes_eq session output))
     && (not (is_of_state session state) || is_with session state (ascii ".rest"))
 
 -- "two arguments that name the same file", by their text; one folder makes the text tell
 unfoldable pub are_names : List ℕ → List ℕ → List ℕ → List ℕ → Bool
 are_names image session state output =
     (((((((is_place image && is_place state) && is_place output) && is_beside image state) && is_beside output state)
-    && not (is_of_state image state)) && not (is_of_state output state)) && not (same_of image output)) && is_read session image state output
+    && not (is_of_state image state)) && not (is_of_state output state)) && not (bytes_eq image output)) && is_read session image state output
 
 -- a text cut at each `/`: its parts
-abbrev pub begun : ℕ → List (List ℕ) → List (List ℕ)
-begun c [] = (c ∷ []) ∷ []
-begun c (part ∷ parts) = (c ∷ part) ∷ parts
-
 unfoldable pub parts_of : List ℕ → List (List ℕ)
-parts_of [] = [] ∷ []
-parts_of (c ∷ cs) = cond (eqb c 47) ([] ∷ parts_of cs) (begun c (parts_of cs))
+parts_of names = slice_split (λ (c : ℕ). eqb c 47) names
 
 -- the names that a night commits along: the last parts of IMAGE and OUTPUT, with a `/` between them; and after another `/` that of each further file
 unfoldable pub with_name : List ℕ → List ℕ → ℕ → List ℕ
@@ -76,21 +72,19 @@ unfoldable pub files_of : List ℕ → ℕ
 files_of names = cond (ltb 251 (length (parts_of names))) 255 (length (parts_of names) + 3)
 
 abbrev pub none_empty : List (List ℕ) → Bool
-none_empty [] = true
-none_empty (part ∷ parts) = ltb 0 (length part) && none_empty parts
+none_empty parts = list_all (λ (part : List ℕ). ltb 0 (length part)) parts
 
 -- a text is two names or more, none of them empty
 unfoldable pub are_recorded : List ℕ → Bool
 are_recorded names = (leb 5 (files_of names) && leb (files_of names) 254) && none_empty (parts_of names)
 
 abbrev pub is_among : List ℕ → List (List ℕ) → Bool
-is_among name [] = false
-is_among name (part ∷ parts) = same_of name part || is_among name parts
+is_among name parts = list_any (bytes_eq name) parts
 
 -- a further file of the night: a place beside STATE, none of STATE's, nor SESSION, nor one of those that the night has
 unfoldable pub is_further : List ℕ → List ℕ → List ℕ → List ℕ → Bool
 is_further file session state names =
-    (((is_place file && is_beside file state) && not (is_of_state file state)) && not (same_of file session)) && not (is_among (last_of file) (parts_of names))
+    (((is_place file && is_beside file state) && not (is_of_state file state)) && not (bytes_eq file session)) && not (is_among (last_of file) (parts_of names))
 
 -- the area: STATE.area, which none of the other files may be, or a further file
 unfoldable pub is_area : List ℕ → List ℕ → List ℕ → List ℕ → Bool

@@ -13,7 +13,8 @@ use lib.Seq.{take-append-le, drop-append_seam}
 use borrow.Author.Tests.{not-true}
 use Rattle.laws.proofs.Bools.{both, neither}
 use Rattle.printing.specs.Printing.{ascii}
-use Rattle.night_arguments.specs.Arguments.{same_of, joined_of}
+use Rattle.std.specs.Str.{bytes_eq}
+use Rattle.night_arguments.specs.Arguments.{joined_of}
 use Rattle.night_names.specs.Names.{last_at, folder_of, last_of, is_place, is_beside, is_with, is_of_state, is_read, are_names, parts_of, with_name, names_of, is_among, is_further, is_area}
 use Rattle.night_names_theorems.proofs.Parts.{same_sound, same_self, last_kept, last_within}
 use Rattle.night_names_theorems.proofs.Back.{joins, Sized, place_within, place_sized, Tells, two_sized, tells_two, tells_more}
@@ -24,8 +25,8 @@ either true b e f g = f refl
 either false b e f g = g e
 
 -- two names that are told apart are
-apart : {a b : List ℕ} → same_of a b ≡ false → a ≢ b
-apart {a} {b} n e = true≢false (sym (same_self b) ∙ sym (ap (λ (x : List ℕ). same_of x b) e) ∙ n)
+apart : {a b : List ℕ} → bytes_eq a b ≡ false → a ≢ b
+apart {a} {b} n e = true≢false (sym (same_self b) ∙ sym (ap (λ (x : List ℕ). bytes_eq x b) e) ∙ n)
 
 module _ (state : List ℕ) (s : is_place state ≡ true) where
   -- STATE with an ending, which is short
@@ -73,7 +74,7 @@ module _ (state : List ℕ) (s : is_place state ≡ true) where
     state_beside =
         let f : folder_of area ≡ folder_of state =
         ap (λ (k : ℕ). take k area) begins ∙ ap (take (last_at state)) e ∙ take-append-le (last_at state) state (ascii ".area") (last_within state) in
-        ap (λ (l : List ℕ). same_of l (folder_of state)) f ∙ same_self (folder_of state)
+        ap (λ (l : List ℕ). bytes_eq l (folder_of state)) f ∙ same_self (folder_of state)
 
     state_unlike : (ending : List ℕ) → ascii ".area" ≢ ending → area ≢ state ++ ending
     state_unlike ending n q =
@@ -81,7 +82,7 @@ module _ (state : List ℕ) (s : is_place state ≡ true) where
 
   -- a further file
   further_tests : (area session names : List ℕ) → is_further area session state names ≡ true
-      → (is_place area ≡ true) × (is_beside area state ≡ true) × (is_of_state area state ≡ false) × (same_of area session ≡ false)
+      → (is_place area ≡ true) × (is_beside area state ≡ true) × (is_of_state area state ≡ false) × (bytes_eq area session ≡ false)
       × (is_among (last_of area) (parts_of names) ≡ false)
   unfolding is_further
   further_tests area session names f =
@@ -126,7 +127,7 @@ module _ (image session state output : List ℕ) (n : are_names image session st
   session_tests : {P : Type 0} → (is_of_state session state ≡ false → P) → (session ≡ state ++ ascii ".rest" → P) → P
   unfolding is_read
   session_tests f g =
-      let named = (ltb 0 (length session) && not (same_of session image)) && not (same_of session output) in
+      let named = (ltb 0 (length session) && not (bytes_eq session image)) && not (bytes_eq session output) in
       let free = not (is_of_state session state) in
       let rest = is_with session state (ascii ".rest") in
       either free rest (both named (free || rest) names_tests.5).1 (λ w. f (not-true _ w))

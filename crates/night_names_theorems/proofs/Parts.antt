@@ -1,33 +1,26 @@
 -- A name's last part has no `/`; a text that is cut at each `/`, where two are joined by one. Assumes nothing.
 use Prim.Native.Nat.{ℕ, ◌+◌, ◌≤◌, ◌<◌}
 use native.Mathlib.Omega.{arith}
-use mathlib.Core.Bool.{Bool, true, false, ◌&&◌, cond, true≢false}
+use mathlib.Core.Bool.{Bool, true, false, cond}
 use mathlib.Core.List.{List, [], ◌∷◌, ◌++◌}
 use mathlib.Core.Path.{◌≡◌, refl, sym, ap, subst, ◌∙◌}
 use lib.Dec.{eqb}
 use lib.ListN.{length, drop, length-append}
 use lib.Seq.{drop_at}
-use borrow.Author.Tests.{eq-eqb, eqb-true}
-use Rattle.laws.proofs.Bools.{both}
+use borrow.Author.Tests.{eqb-true}
 use Rattle.laws.proofs.Conds.{passes}
-use Rattle.night_arguments.specs.Arguments.{same_of}
-use Rattle.night_names.specs.Names.{last_from, last_at, begun, parts_of}
+use Rattle.std.specs.List.{onto_first}
+use Rattle.std.specs.Str.{bytes_eq}
+use Rattle.std.proofs.lemmas.Slice.Eq.{bytes_eq-Decides}
+use Rattle.night_names.specs.Names.{last_from, last_at, parts_of}
 use Rattle.night_names.proofs.Cuts.{some_part}
 
 -- texts that are told the same are
-pub same_sound : (a b : List ℕ) → same_of a b ≡ true → a ≡ b
-unfolding same_of
-same_sound [] [] e = refl
-same_sound [] (y ∷ ys) e = absurd (true≢false (sym e))
-same_sound (x ∷ xs) [] e = absurd (true≢false (sym e))
-same_sound (x ∷ xs) (y ∷ ys) e =
-    let p = both (eqb x y) (same_of xs ys) e in
-    ap (λ (z : ℕ). z ∷ xs) (eqb-true x y p.0) ∙ ap (λ (zs : List ℕ). y ∷ zs) (same_sound xs ys p.1)
+pub same_sound : (a b : List ℕ) → bytes_eq a b ≡ true → a ≡ b
+same_sound a b e = (bytes_eq-Decides a b).0 e
 
-pub same_self : (l : List ℕ) → same_of l l ≡ true
-unfolding same_of
-same_self [] = refl
-same_self (x ∷ xs) = ap (λ (b : Bool). b && same_of xs xs) (eq-eqb x x refl) ∙ same_self xs
+pub same_self : (l : List ℕ) → bytes_eq l l ≡ true
+same_self l = (bytes_eq-Decides l l).1 refl
 
 -- no byte is a `/`
 abbrev pub NoSlash : List ℕ → Type 0
@@ -89,12 +82,12 @@ last_within l = go (parted l)
         omega arith
 
 -- two texts with a `/` between them have the parts of both
-begun_both : (c : ℕ) (ps qs : List (List ℕ)) → 0 < length ps → begun c (ps ++ qs) ≡ begun c ps ++ qs
-begun_both c [] qs h = absurd (none_less h)
+onto_both : (c : ℕ) (ps qs : List (List ℕ)) → 0 < length ps → onto_first c (ps ++ qs) ≡ onto_first c ps ++ qs
+onto_both c [] qs h = absurd (none_less h)
   where
     none_less : 0 < 0 → ⊥
     none_less g = omega arith
-begun_both c (p ∷ ps) qs h = refl
+onto_both c (p ∷ ps) qs h = refl
 
 pub cut_joined : (a b : List ℕ) → parts_of (a ++ 47 ∷ b) ≡ parts_of a ++ parts_of b
 unfolding parts_of
@@ -102,12 +95,12 @@ cut_joined [] b = refl
 cut_joined (c ∷ a) b = go (eqb c 47) (cut_joined a b)
   where
     go : (t : Bool) → parts_of (a ++ 47 ∷ b) ≡ parts_of a ++ parts_of b
-        → cond t ([] ∷ parts_of (a ++ 47 ∷ b)) (begun c (parts_of (a ++ 47 ∷ b))) ≡ cond t ([] ∷ parts_of a) (begun c (parts_of a)) ++ parts_of b
+        → cond t ([] ∷ parts_of (a ++ 47 ∷ b)) (onto_first c (parts_of (a ++ 47 ∷ b))) ≡ cond t ([] ∷ parts_of a) (onto_first c (parts_of a)) ++ parts_of b
     go true e = ap (λ (ps : List (List ℕ)). [] ∷ ps) e
-    go false e = ap (begun c) e ∙ begun_both c (parts_of a) (parts_of b) (some_part a)
+    go false e = ap (onto_first c) e ∙ onto_both c (parts_of a) (parts_of b) (some_part a)
 
 -- a text without one is its only part
 pub uncut : (l : List ℕ) → NoSlash l → parts_of l ≡ l ∷ []
 unfolding parts_of
 uncut [] n = refl
-uncut (c ∷ cs) n = passes _ _ n.0 ∙ ap (begun c) (uncut cs n.1)
+uncut (c ∷ cs) n = passes _ _ n.0 ∙ ap (onto_first c) (uncut cs n.1)

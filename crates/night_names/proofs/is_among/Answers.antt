@@ -1,24 +1,16 @@
--- `night_names::is_among` meets its contract: each turn compares one name more. Assumes nothing.
-use native.Mathlib.Omega.{arith}
-use mathlib.Core.Path.{sym, ap, ◌∙◌}
-use Rattle.night_arguments.specs.Arguments.{same_of}
-use Rattle.night_names.proofs.Cuts.{among_yes, among_no}
+-- `night_names::is_among` meets its contract: the parts, of which one is the name. Assumes nothing.
+use lib.Dec.{eqb}
+use borrow.Author.Tests.{tests}
+use Rattle.std.proofs.Common.{rules, ℕ, bytes_eq}
+use Rattle.std.proofs.lemmas.Iterator.Search.{any_from_yields_List}
+use Rattle.std.proofs.lemmas.Iterator.Splits.{YieldsList-from_slice_split}
+use Rattle.night_names.specs.Names.{parts_of}
 use Rattle.night_names.proofs.is_among.Goals as goal
 
-pub returns-then-same : goal.returns-then-same
-returns-then-same c =
-    let l = c.loop-k in
-    let a = c.args in
-    let e = c.slashes-n.ensures.names_len in
-    let h = c.loop-k-test.true in
-    sym (l.invariant ∙ among_yes a.name.now a.names.now l.k (omega arith)
-    (ap (same_of a.name.now) (sym c.name_at.ensures) ∙ sym c.same.ensures ∙ c.if-same.true))
-
-pub loop-k-preserved : goal.loop-k-preserved
-loop-k-preserved c =
-    let l = c.loop-k in
-    let a = c.args in
-    let e = c.slashes-n.ensures.names_len in
-    let h = c.loop-k-test.true in
-    l.invariant ∙ among_no a.name.now a.names.now l.k (omega arith)
-    (ap (same_of a.name.now) (sym c.name_at.ensures) ∙ sym c.same.ensures ∙ c.if-same.false)
+pub returns : goal.returns
+unfolding parts_of
+returns c =
+    any_from_yields_List (bytes_eq c.args.name.now) _ _ _ c.any.ensures.ran
+    (YieldsList-from_slice_split _ (λ (x : ℕ). eqb x 47) c.args.names.now c.split.ensures.rest c.split.ensures.done c.split.ensures.closure
+    (λ x b q k. search (rules, tests)))
+    (λ x b q k. search (rules, tests))

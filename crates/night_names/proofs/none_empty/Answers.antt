@@ -1,18 +1,17 @@
--- `night_names::none_empty` meets its contract: each turn looks at one byte more. Assumes nothing.
-use native.Mathlib.Omega.{arith}
-use mathlib.Core.Path.{sym, ◌∙◌}
-use Rattle.night_names.proofs.Cuts.{whole_on, whole_not, whole_end}
+-- `night_names::none_empty` meets its contract: the parts, each of which has a byte. Assumes nothing.
+use lib.Dec.{eqb, ltb}
+use lib.ListN.{length}
+use borrow.Author.Tests.{tests}
+use Rattle.std.proofs.Common.{rules, ℕ, List}
+use Rattle.std.proofs.lemmas.Iterator.Search.{all_from_yields_List}
+use Rattle.std.proofs.lemmas.Iterator.Splits.{YieldsList-from_slice_split}
+use Rattle.night_names.specs.Names.{parts_of}
 use Rattle.night_names.proofs.none_empty.Goals as goal
 
-pub returns-then-begins-ends : goal.returns-then-begins-ends
-returns-then-begins-ends c =
-    let l = c.loop-i in
-    sym (l.invariant.1 ∙ whole_not c.args.names.now l.i c.loop-i-test.true l.begins c.if-begins-ends.true)
-
-pub loop-i-preserved : goal.loop-i-preserved
-loop-i-preserved c =
-    let l = c.loop-i in
-    (omega arith, l.invariant.1 ∙ whole_on c.args.names.now l.i c.loop-i-test.true l.begins c.if-begins-ends.false)
-
 pub returns : goal.returns
-returns c = let l = c.loop-i in sym (l.invariant.1 ∙ whole_end c.args.names.now l.i l.begins c.loop-i-test.false)
+unfolding parts_of
+returns c =
+    all_from_yields_List (λ (part : List ℕ). ltb 0 (length part)) _ _ _ c.all.ensures.ran
+    (YieldsList-from_slice_split _ (λ (x : ℕ). eqb x 47) c.args.names.now c.split.ensures.rest c.split.ensures.done c.split.ensures.closure
+    (λ x b q k. search (rules, tests)))
+    (λ x b q k. search (rules, tests))
