@@ -8,13 +8,10 @@ ghost use Rattle.numbers.specs.Numbers.{byte_at, two, four, little_endian};
 pub fn byte_at(bytes: &[u8], at: usize, k: usize) -> u8
     ensures { result ≡ byte_at bytes.now at k }
 {
-    if bytes.len() <= at {
-        return 0;
+    match bytes.get(at..) {
+        Some(rest) => rest.get(k).copied().unwrap_or(0),
+        None => 0,
     }
-    if bytes.len() - at <= k {
-        return 0;
-    }
-    bytes[at + k]
 }
 
 // The two-byte number from byte k on.
@@ -22,7 +19,7 @@ pub fn two_at(bytes: &[u8], at: usize, k: usize) -> u16
     requires { k ≤ 65535 }
     ensures { result ≡ two bytes.now at k }
 {
-    (byte_at(bytes, at, k) as u16) + 256 * (byte_at(bytes, at, k + 1) as u16)
+    u16::from_le_bytes([byte_at(bytes, at, k), byte_at(bytes, at, k + 1)])
 }
 
 // The four-byte number from byte k on.
@@ -30,7 +27,7 @@ pub fn four_at(bytes: &[u8], at: usize, k: usize) -> u32
     requires { k ≤ 65533 }
     ensures { result ≡ four bytes.now at k }
 {
-    (two_at(bytes, at, k) as u32) + 65536 * (two_at(bytes, at, k + 2) as u32)
+    u32::from(two_at(bytes, at, k)) + 65536 * u32::from(two_at(bytes, at, k + 2))
 }
 
 // A number over all of a lent part, the lowest byte first.
@@ -38,11 +35,9 @@ pub fn put(part: &mut [u8], number: u64)
     ensures { part.new ≡ little_endian (length part.old) number }
 {
     let mut rest = number;
-    let mut i = 0;
-    while i < part.len() {
-        part[i] = (rest % 256) as u8;
-        rest = rest / 256;
-        i = i + 1;
+    for byte in part.iter_mut() {
+        *byte = (rest % 256) as u8;
+        rest /= 256;
     }
 }
 

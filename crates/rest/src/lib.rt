@@ -78,7 +78,12 @@ fn skip(session: &[u8], used: Records) -> Option<usize>
 }
 
 // The rest of a sound session.
-fn write_rest(session: &[u8], used: Records, cycles: Cycles, buffer: &mut [u8]) -> Result<usize, RestRefusal>
+fn write_rest(
+    session: &[u8],
+    used: Records,
+    cycles: Cycles,
+    buffer: &mut [u8],
+) -> Result<usize, RestRefusal>
     requires { check_of session.now ≡ Ok tt }
     ensures { (told_rest result ≡ rest_answer session.now used.0 cycles.0 buffer.old)
         × (buffer.new ≡ rest_buffer session.now used.0 cycles.0 buffer.old) }
@@ -93,7 +98,12 @@ fn write_rest(session: &[u8], used: Records, cycles: Cycles, buffer: &mut [u8]) 
 }
 
 // The rest of a session, of which so many records were used in so many cycles, is written to the buffer's front: how long it is, or why there is none.
-pub fn rest(session: &[u8], used: Records, cycles: Cycles, buffer: &mut [u8]) -> Result<usize, RestRefusal>
+pub fn rest(
+    session: &[u8],
+    used: Records,
+    cycles: Cycles,
+    buffer: &mut [u8],
+) -> Result<usize, RestRefusal>
     ensures { (told_rest result ≡ rest_answer session.now used.0 cycles.0 buffer.old)
         × (buffer.new ≡ rest_buffer session.now used.0 cycles.0 buffer.old) }
 {

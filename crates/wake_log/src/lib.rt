@@ -56,10 +56,7 @@ pub fn read_row(log: &[u8], k: u32) -> Row
 fn is_wake(row: Row) -> bool
     ensures { result ≡ is_wake row }
 {
-    if row.cause > 5 {
-        return false;
-    }
-    (row.behind < 64) & (row.behind % (2 << row.cause) == 0)
+    row.cause <= 5 && (row.behind < 64) & (row.behind % (2 << row.cause) == 0)
 }
 
 // Whether a run can have written the row of this number.

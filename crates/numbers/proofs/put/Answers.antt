@@ -1,20 +1,20 @@
 -- `numbers::put` meets its contract: each turn puts one byte more. Assumes nothing.
-use borrow.Author.Rules.{rules}
-use Prim.Native.Nat.{◌%◌}
 use native.Mathlib.Omega.{arith}
 use mathlib.Core.Path.{sym, ◌∙◌}
-use lib.ListN.{length, length-set}
+use lib.ListN.{length}
 use Rattle.numbers.proofs.Laws.{bytes_more, bytes_all}
 use Rattle.numbers.proofs.put.Goals as goal
 
-pub loop-i-preserved : goal.loop-i-preserved
-loop-i-preserved c = let l = c.loop-i in
-    let e = l.invariant.1 in
-    let s = length-set l.part l.i (l.rest % 256) in
-    let n = length c.args.part.now in
-    (omega arith, s ∙ e, l.invariant.2 ∙ bytes_more l.part l.i n l.rest (search rules) (omega arith))
+pub loop-byte-preserved : goal.loop-byte-preserved
+loop-byte-preserved c =
+    let l = c.loop-byte in
+    let e = l.auto.part in
+    let t = c.loop-byte-test.true in
+    l.invariant ∙ bytes_more l.part l.byte-index (length c.args.part.now) l.rest (omega arith) t
 
 pub returns : goal.returns
-returns c = let l = c.loop-i in
-    let n = length c.args.part.now in
-    sym (l.invariant.2 ∙ bytes_all l.part l.i n l.rest (search rules) (omega arith))
+returns c =
+    let l = c.loop-byte in
+    let e = l.auto.part in
+    let t = c.loop-byte-test.false in
+    sym (l.invariant ∙ bytes_all l.part l.byte-index (length c.args.part.now) l.rest (omega arith) t)
