@@ -1,5 +1,6 @@
 -- A moment's laws: cycles pass in parts as at once, what is listed comes next, and an access from $20 on cannot tell by how much the units lag.
 -- Assumes nothing.
+use Rattle.std.specs.Prelude.{max}
 use Prim.Native.Nat.{ℕ, ◌+◌, ◌-◌, ◌/◌, ◌%◌, ◌≤◌, ◌<◌}
 use native.Mathlib.Omega.{arith}
 use native.Mathlib.Decide.{ℕ_discrete}
@@ -95,7 +96,7 @@ unfolding passed store_of
 store_law at v o m c e p = p ∙ ap (λ (x : Moment). store_of x.bus at v m) e
 
 -- the rest of n cycles, in one part with those that the units lag by
-pub finish_law : (c : Clocked) (n : ℕ) {w k : ℕ} {b : Bus} → w ≡ n - c.cycle → k ≡ c.cycle + w - c.shown → b ≡ passed k c.bus → b ≡ ended n (moment_of c)
+pub finish_law : (c : Clocked) (n : ℕ) {w k : ℕ} {b : Bus} → w ≡ max c.cycle n → k ≡ w - c.shown → b ≡ passed k c.bus → b ≡ ended n (moment_of c)
 unfolding ended
 finish_law c n p q e = e ∙ in_parts (lag c) (n - (c.shown + lag c)) c.bus (omega arith)
 

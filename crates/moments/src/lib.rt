@@ -20,40 +20,27 @@ pub struct Clocked {
     pub ahead: u64,
 }
 
-// The difference, no less than 0.
-fn less(n: u8, k: u8) -> u8
-    ensures { result ≡ n - k }
-{
-    if n < k { 0 } else { n - k }
-}
-
 // An instruction begins.
+#[tactic(auto, unfolding(bus::specs::Units::passed, timer::specs::Timer::ticks, serial::specs::Serial::ticks_serial))]
 pub fn begin(bus: Bus, ahead: u64) -> Clocked
     ensures { moment_of result ≡ begun (listed ahead) bus }
 {
     Clocked {
-        bus: bus,
+        bus,
         shown: 0,
         cycle: 0,
-        ahead: ahead,
+        ahead,
     }
 }
 
 impl Clocked {
-    fn with(mut self, b: Bus) -> Clocked
-        ensures { result ≡ record { bus = b; shown = self.shown; cycle = self.cycle; ahead = self.ahead } }
-    {
-        self.bus = b;
-        self
-    }
-
     // The cycles before the next access pass.
     fn advance(mut self) -> Clocked
         ensures { moment_of result ≡ next (moment_of self) }
     {
-        let before = less((self.ahead % 16) as u8, 1);
-        self.cycle = self.cycle + less(before, self.cycle);
-        self.ahead = self.ahead / 16;
+        let before = ((self.ahead % 16) as u8).saturating_sub(1);
+        self.cycle += before.saturating_sub(self.cycle);
+        self.ahead /= 16;
         self
     }
 
@@ -62,10 +49,9 @@ impl Clocked {
         ensures fact_1 { moment_of result ≡ moment_of self }
         ensures fact_2 { lag result ≡ 0 }
     {
-        let behind = less(self.cycle, self.shown);
-        let bus = self.bus.pass(behind as u32);
-        self.bus = bus;
-        self.shown = self.shown + behind;
+        let behind = self.cycle.saturating_sub(self.shown);
+        self.bus = self.bus.pass(behind as u32);
+        self.shown += behind;
         self
     }
 
@@ -76,10 +62,9 @@ impl Clocked {
     {
         let c = self.catch_up();
         let f = c.bus.read_low(image, at);
-        let next = c.with(f.next);
         Read {
             value: f.value,
-            next: next,
+            next: Clocked { bus: f.next, ..c },
         }
     }
 
@@ -91,7 +76,7 @@ impl Clocked {
     {
         let c = self.catch_up();
         let bus = c.bus.write_low(image, at, v);
-        c.with(bus)
+        Clocked { bus, ..c }
     }
 
     // From $20 on an access cannot tell by how much the units lag.
@@ -114,8 +99,7 @@ impl Clocked {
     {
         let c = self.advance();
         if at < 32 {
-            let f = c.read_low(image, at);
-            return f.next;
+            return c.read_low(image, at).next;
         }
         c
     }
@@ -136,7 +120,7 @@ impl Clocked {
     pub fn finish(self, n: u8) -> Bus
         ensures { result ≡ ended n (moment_of self) }
     {
-        let all = self.cycle + less(n, self.cycle);
-        self.bus.pass(less(all, self.shown) as u32)
+        let all = self.cycle.max(n);
+        self.bus.pass(all.saturating_sub(self.shown) as u32)
     }
 }

@@ -3,4 +3,4 @@ use Rattle.moments.proofs.Laws.{advance_law}
 use Rattle.moments.proofs.Clocked.advance.Goals as goal
 
 pub returns : goal.returns
-returns c = advance_law _ (omega arith) c.less-before.ensures c.less.ensures
+returns c = advance_law _ (omega arith) c.saturating_sub-before.ensures c.saturating_sub.ensures

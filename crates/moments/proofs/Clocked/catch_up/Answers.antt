@@ -3,4 +3,4 @@ use Rattle.moments.proofs.Laws.{catch_up_law}
 use Rattle.moments.proofs.Clocked.catch_up.Goals as goal
 
 pub returns : goal.returns
-returns c = let k = c.less-behind.ensures in record { fact_1 = catch_up_law _ k c.pass-bus.ensures; fact_2 = omega arith }
+returns c = let k = c.saturating_sub-behind.ensures in record { fact_1 = catch_up_law _ k c.pass-self.ensures; fact_2 = omega arith }

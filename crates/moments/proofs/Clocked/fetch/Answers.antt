@@ -9,7 +9,7 @@ use Rattle.moments.proofs.Clocked.fetch.Goals as goal
 pub returns-then-at-lt32 : goal.returns-then-at-lt32
 unfolding read_at
 returns-then-at-lt32 c = λ area. let a = c.args in
-    ap (λ (r : Read ℕ Moment). r.next) (c.read_low-f.ensures area)
+    ap (λ (r : Read ℕ Moment). r.next) (c.read_low.ensures area)
     ∙ ap (λ (o : Moment). (read_now (memories a.image.now area) a.at o).next) c.advance-c.ensures
 
 pub returns : goal.returns
