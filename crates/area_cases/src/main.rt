@@ -117,7 +117,7 @@ fn show_machine(rt: &impl Print, m: Machine) {
     hexadecimal(rt, b" pc ", c.pc as u64, 4);
     hexadecimal(rt, b" a ", c.a as u64, 2);
     hexadecimal(rt, b" sp ", c.sp as u64, 4);
-    hexadecimal(rt, b" cc ", c.codes.to_byte() as u64, 2);
+    hexadecimal(rt, b" cc ", u8::from(c.codes) as u64, 2);
     number(rt, b" waiting ", c.waiting as u64);
     number(rt, b" nmi ", m.nmi as u64);
     number(rt, b" rame ", m.chip.bus.rame as u64);

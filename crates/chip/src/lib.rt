@@ -174,7 +174,7 @@ impl Core {
         words
             .push(c.a, image, area)
             .push(c.b, image, area)
-            .push(c.codes.to_byte(), image, area)
+            .push(u8::from(c.codes), image, area)
     }
 
     fn rti(self, image: &[u8], area: &[u8]) -> Core
@@ -193,7 +193,7 @@ impl Core {
             x: x.value,
             sp: core.registers.sp,
             pc: pc.value,
-            codes: arithmetic::Codes::from_byte(k.value),
+            codes: arithmetic::Codes::from(k.value),
             waiting: self.registers.waiting,
         };
         Core {

@@ -99,7 +99,7 @@ fn start_registers() -> Registers {
         x: 0x0200,
         sp: 0x00F0,
         pc: ORIGIN,
-        codes: Codes::from_byte(0xD0),
+        codes: Codes::from(0xD0u8),
         waiting: false,
     }
 }
@@ -215,7 +215,7 @@ fn show_registers(rt: &impl Print, was: Registers, is: Registers) {
     show_byte(rt, b"b", was.b, is.b);
     show_word(rt, b"x", was.x, is.x);
     show_word(rt, b"sp", was.sp, is.sp);
-    show_byte(rt, b"cc", was.codes.to_byte(), is.codes.to_byte());
+    show_byte(rt, b"cc", u8::from(was.codes), u8::from(is.codes));
     show_bit(rt, b"waiting", was.waiting, is.waiting);
 }
 

@@ -82,7 +82,7 @@ pub fn registers(line: Line, c: Registers) -> Line
     let b = with_byte(a, b" b ", c.b);
     let x = with_word(b, b" x ", c.x);
     let sp = with_word(x, b" sp ", c.sp);
-    with_byte(sp, b" cc ", c.codes.to_byte())
+    with_byte(sp, b" cc ", u8::from(c.codes))
 }
 
 pub fn refused(number: u8) -> Line

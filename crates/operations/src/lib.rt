@@ -232,7 +232,7 @@ impl Storing {
 pub fn stored_word(op: WideStore, c: Registers) -> Registers
     ensures { result ≡ stored_word_then op c }
 {
-    c.with_codes(arithmetic::moved16(c.stored(op), c.codes))
+    c.with_codes(arithmetic::moved(c.stored(op), c.codes))
 }
 
 impl Pushing {

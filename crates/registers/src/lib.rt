@@ -189,8 +189,8 @@ impl Registers {
             Internal::Nop => self,
             Internal::Lsrd => self.result_double(arithmetic::lsr16(self.double(), k)),
             Internal::Asld => self.result_double(arithmetic::asl16(self.double(), k)),
-            Internal::Tap => self.with_codes(Codes::from_byte(self.a)),
-            Internal::Tpa => self.with_a(k.to_byte()),
+            Internal::Tap => self.with_codes(Codes::from(self.a)),
+            Internal::Tpa => self.with_a(u8::from(k)),
             Internal::Inx => self.indexing(plus(self.x, 1)),
             Internal::Dex => self.indexing(minus(self.x, 1)),
             Internal::Clv => self.with_codes(with_v(k, false)),
@@ -223,9 +223,9 @@ impl Registers {
             Wide::Subd => self.result_double(arithmetic::sub16(self.double(), w, k)),
             Wide::Addd => self.result_double(arithmetic::add16(self.double(), w, k)),
             Wide::Cpx => self.compared16(arithmetic::sub16(self.x, w, k)),
-            Wide::Ldd => self.with_double(w).with_codes(arithmetic::moved16(w, k)),
-            Wide::Lds => self.with_sp(w).with_codes(arithmetic::moved16(w, k)),
-            Wide::Ldx => self.with_x(w).with_codes(arithmetic::moved16(w, k)),
+            Wide::Ldd => self.with_double(w).with_codes(arithmetic::moved(w, k)),
+            Wide::Lds => self.with_sp(w).with_codes(arithmetic::moved(w, k)),
+            Wide::Ldx => self.with_x(w).with_codes(arithmetic::moved(w, k)),
         }
     }
 

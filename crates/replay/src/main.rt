@@ -129,7 +129,7 @@ fn start(machine: Machine, case: &[u8]) -> Machine {
         x: word(case, 4),
         sp: word(case, 6),
         pc: word(case, 0),
-        codes: Codes::from_byte(peek(case, 8)),
+        codes: Codes::from(peek(case, 8)),
         waiting: false,
     };
     Machine {
@@ -158,7 +158,7 @@ fn compare_registers(registers: Registers, case: &[u8]) -> Result<(), Difference
     if registers.sp != word(case, AFTER + 6) {
         return Err(Difference::Sp);
     }
-    if registers.codes.to_byte() != codes_seen(peek(case, AFTER + 8)) {
+    if u8::from(registers.codes) != codes_seen(peek(case, AFTER + 8)) {
         return Err(Difference::Codes);
     }
     Ok(())

@@ -60,7 +60,7 @@ fn registers_byte(m: Machine, k: usize) -> u8
         7 => upper(m.chip.registers.sp),
         8 => lower(m.chip.registers.pc),
         9 => upper(m.chip.registers.pc),
-        10 => m.chip.registers.codes.to_byte(),
+        10 => u8::from(m.chip.registers.codes),
         11 => bool_byte(m.chip.registers.waiting),
         12 => bool_byte(m.nmi),
         _ => bool_byte(m.irq1),
@@ -239,7 +239,7 @@ fn registers_in(bytes: &[u8]) -> Registers
         x: word_at(bytes, 4),
         sp: word_at(bytes, 6),
         pc: word_at(bytes, 8),
-        codes: Codes::from_byte(byte_in(bytes, 10)),
+        codes: Codes::from(byte_in(bytes, 10)),
         waiting: bool_at(bytes, 11),
     }
 }

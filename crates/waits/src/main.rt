@@ -34,7 +34,7 @@ fn show(rt: &impl Print, r: Ran, first: u8, second: u8) {
     hexadecimal(rt, b" a ", c.a as u64, 2);
     hexadecimal(rt, b" b ", c.b as u64, 2);
     hexadecimal(rt, b" sp ", c.sp as u64, 4);
-    hexadecimal(rt, b" cc ", c.codes.to_byte() as u64, 2);
+    hexadecimal(rt, b" cc ", u8::from(c.codes) as u64, 2);
     hexadecimal(rt, b" 80 ", first as u64, 2);
     hexadecimal(rt, b" 81 ", second as u64, 2);
 }

@@ -5,7 +5,7 @@ use Rattle.lines.proofs.registers.Goals as goal
 
 pub returns : goal.returns
 unfolding registers_text
-returns c = rw (← c.to_byte.ensures)
+returns c = rw (← c.from.ensures)
     (puts_then _ _ _
     (puts_then _ _ _
     (puts_then _ _ _

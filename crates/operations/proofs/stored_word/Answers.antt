@@ -3,4 +3,4 @@ use Rattle.operations.proofs.stored_word.Goals as goal
 
 pub returns : goal.returns
 unfolding stored_word_then
-returns c = rw (c.with_codes.ensures, c.moved16.ensures, c.stored.ensures)
+returns c = rw (c.with_codes.ensures, c.moved.ensures, c.stored.ensures)

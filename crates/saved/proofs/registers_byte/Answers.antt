@@ -39,7 +39,7 @@ returns-in-9 c = there c.args.m c.in-9.is c.upper-in-9.ensures
 
 pub returns-in-10 : goal.returns-in-10
 unfolding saved_of
-returns-in-10 c = there c.args.m c.in-10.is c.to_byte.ensures
+returns-in-10 c = there c.args.m c.in-10.is c.from.ensures
 
 pub returns-in-11 : goal.returns-in-11
 unfolding saved_of

@@ -7,4 +7,4 @@ unfolding rti
 returns c = after _ _ _ _ c.pull-k.ensures
     (after _ _ _ _ c.pull-b.ensures
     (after _ _ _ _ c.pull-a.ensures
-    (after _ _ _ _ c.pull_word-x.ensures (after _ _ _ _ c.pull_word-pc.ensures (ends _ _ _ (rw c.from_byte.ensures))))))
+    (after _ _ _ _ c.pull_word-x.ensures (after _ _ _ _ c.pull_word-pc.ensures (ends _ _ _ (rw c.from.ensures))))))

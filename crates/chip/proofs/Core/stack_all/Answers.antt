@@ -6,4 +6,4 @@ pub returns : goal.returns
 unfolding stack_all
 returns c = after _ _ _ _ c.push_word.ensures (after _ _ _ _ c.push_word-words.ensures (after _ _ _ _
     c.push.ensures
-    (after _ _ _ _ c.push-2.ensures (rw c.to_byte.ensures at c.push-3.ensures))))
+    (after _ _ _ _ c.push-2.ensures (rw c.from.ensures at c.push-3.ensures))))

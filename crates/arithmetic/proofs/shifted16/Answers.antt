@@ -1,7 +1,0 @@
-use Rattle.std.proofs.Common.{rules}
-use mathlib.Core.Bool.{xor}
-use Rattle.arithmetic.proofs.shifted16.Goals as goal
-
-pub returns : goal.returns
-unfolding xor
-returns c = search rules

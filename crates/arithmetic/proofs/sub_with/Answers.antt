@@ -1,7 +1,0 @@
-use mathlib.Core.Bool.{xor}
-use Rattle.arithmetic.proofs.Small.{counts}
-use Rattle.arithmetic.proofs.sub_with.Goals as goal
-
-pub returns : goal.returns
-unfolding xor
-returns c = rw (← counts c.args.borrow) c.byte_after.ensures
