@@ -5,7 +5,7 @@ use native.Mathlib.Omega.{arith}
 use mathlib.Core.Bool.{Bool, true, false, true≢false}
 use mathlib.Core.List.{List, [], ◌∷◌}
 use mathlib.Core.Logic.{◌↔◌}
-use mathlib.Core.Option.{Option, none, some}
+use Rattle.std.specs.Prelude.{Option, None, Some}
 use mathlib.Core.Path.{◌≡◌, refl, sym, ap, subst, ◌∙◌}
 use lib.ListN.{length}
 use borrow.Author.Tests.{eq-eqb, ne_eqb}
@@ -51,8 +51,8 @@ abbrev found_in : List ℕ → ℕ → ℕ → Option ℕ
 found_in bytes first last = first_of (unrun_from bytes first (last + 1 - first))
 
 abbrev Told : List ℕ → ℕ → ℕ → Option ℕ → Type 0
-Told bytes first last none = AllRan bytes first last
-Told bytes first last (some a) = Least bytes first last a
+Told bytes first last None = AllRan bytes first last
+Told bytes first last (Some a) = Least bytes first last a
 
 module _ (bytes : List ℕ) (last : ℕ) where
   -- an address that ran, in front
@@ -65,8 +65,8 @@ module _ (bytes : List ℕ) (last : ℕ) where
       go (no n) = rest b (omega (arith, h, n)) p
 
   on : (at : ℕ) → has_run bytes at ≡ true → (o : Option ℕ) → Told bytes (at + 1) last o → Told bytes at last o
-  on at e none t = ran_first at (λ b. b ≤ last) e t
-  on at e (some a) t = record {
+  on at e None t = ran_first at (λ b. b ≤ last) e t
+  on at e (Some a) t = record {
     from = let f = t.from in omega (arith, f);
     to = t.to;
     unrun = t.unrun;
@@ -99,14 +99,14 @@ module _ (bytes : List ℕ) (last : ℕ) where
   not_below first a b l m h = true≢false (sym (m.earlier a l.from h) ∙ l.unrun)
 
   only : (first : ℕ) (o p : Option ℕ) → Told bytes first last o → Told bytes first last p → o ≡ p
-  only first none none t u = refl
-  only first none (some b) t u = absurd (not_both first b t u)
-  only first (some a) none t u = absurd (not_both first a u t)
-  only first (some a) (some b) t u =
+  only first None None t u = refl
+  only first None (Some b) t u = absurd (not_both first b t u)
+  only first (Some a) None t u = absurd (not_both first a u t)
+  only first (Some a) (Some b) t u =
       let m = not_below first a b t u in
       let n = not_below first b a u t in
       let e : a ≡ b = omega (arith, m, n) in
-      ap some e
+      ap Some e
 
 module _ (bytes : List ℕ) (first last : ℕ) where
   first_told : Told bytes first last (found_in bytes first last)
@@ -135,17 +135,17 @@ module _ (bytes : List ℕ) (first last : ℕ) where
   )
 
   -- an address is given exactly where it is the least of the range that never ran
-  pub gives_least : (a : ℕ) → (unrun_answer bytes first last ≡ gives (some a)) ↔ ((length bytes ≡ 8192) × Least bytes first last a)
-  gives_least a = given (some a)
+  pub gives_least : (a : ℕ) → (unrun_answer bytes first last ≡ gives (Some a)) ↔ ((length bytes ≡ 8192) × Least bytes first last a)
+  gives_least a = given (Some a)
 
   -- none is given exactly where every address of the range ran
-  pub gives_none : (unrun_answer bytes first last ≡ gives none) ↔ ((length bytes ≡ 8192) × AllRan bytes first last)
-  gives_none = given none
+  pub gives_none : (unrun_answer bytes first last ≡ gives None) ↔ ((length bytes ≡ 8192) × AllRan bytes first last)
+  gives_none = given None
 
   -- 15 exactly for a wrong length
   pub replies_wrong : (unrun_answer bytes first last ≡ replies 15) ↔ (length bytes ≡ 8192 → ⊥)
   replies_wrong = (λ e h. let r = answer_right h in apart cc, answer_wrong)
 
 -- a backward range
-pub backward : (bytes : List ℕ) (first last : ℕ) → length bytes ≡ 8192 → last < first → unrun_answer bytes first last ≡ gives none
+pub backward : (bytes : List ℕ) (first last : ℕ) → length bytes ≡ 8192 → last < first → unrun_answer bytes first last ≡ gives None
 backward bytes first last e h = (gives_none bytes first last).1 (e, λ b f l. absurd (let z : ⊥ = omega (arith, h, f, l) in z))

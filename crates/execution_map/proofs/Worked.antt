@@ -3,7 +3,7 @@ use Prim.Native.Nat.{ℕ, ◌+◌, ◌-◌}
 use mathlib.Core.Path.{◌≡◌, refl}
 use mathlib.Core.Bool.{Bool, true, false}
 use mathlib.Core.List.{List, [], ◌∷◌}
-use mathlib.Core.Option.{Option, none, some}
+use Rattle.std.specs.Prelude.{Option, None, Some}
 use lib.Count.{ones}
 use lib.ListN.{replicate}
 use Rattle.asking.specs.Asking.{Given, gives, replies}
@@ -80,6 +80,6 @@ answers =
     ∷ unrun_answer (replicate 8192 0) 11 6
     ∷ []
 
-answers_worked : answers ≡ replies 15 ∷ gives (some 6) ∷ gives none ∷ []
+answers_worked : answers ≡ replies 15 ∷ gives (Some 6) ∷ gives None ∷ []
 unfolding answers unrun_answer unrun_from has_run
 answers_worked = refl

@@ -9,6 +9,7 @@ ghost use Rattle.execution_map.specs.Map.{map_of, has_run, marked, begun_at, one
 pub struct WrongMap;
 
 // Whether an instruction began at this address; past the map's end all count as set.
+#[tactic(auto, using(crate::proofs::Laws::ran_within, crate::proofs::Laws::ran_past))]
 pub fn has_run(map: &[u8], at: u16) -> bool
     ensures { result ≡ has_run map.now at }
 {
@@ -20,6 +21,7 @@ pub fn has_run(map: &[u8], at: u16) -> bool
 }
 
 // An instruction begins at this address: its bit is set, and the total grows by one where it was clear.
+#[tactic(auto, using(crate::proofs::Laws::ran_within, crate::proofs::Laws::ran_past, crate::proofs::Laws::marked_again, crate::proofs::Laws::marked_code))]
 fn mark(map: &mut [u8], total: &mut u32, at: u16)
     requires { total.old + 1 < 2 ^ 32 }
     ensures { map_of map.new total.new ≡ marked at (map_of map.old total.old) }
@@ -37,6 +39,7 @@ fn mark(map: &mut [u8], total: &mut u32, at: u16)
 }
 
 // .. where the map is kept.
+#[tactic(auto, unfolding(crate::specs::Map::begun_at))]
 pub fn begin(kept: bool, map: &mut [u8], total: &mut u32, at: u16)
     requires { kept ≡ true → total.old + 1 < 2 ^ 32 }
     ensures { map_of map.new total.new ≡ begun_at kept at (map_of map.old total.old) }
@@ -59,6 +62,7 @@ fn ones(map: &[u8]) -> u64
 }
 
 // Whether the map has its length, and the total stated is its own.
+#[tactic(auto, unfolding(crate::specs::Map::is_sound))]
 pub fn is_sound(map: &[u8], total: u32) -> bool
     ensures { result ≡ is_sound (map_of map.now total) }
 {

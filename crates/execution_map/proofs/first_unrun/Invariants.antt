@@ -6,6 +6,3 @@ use Rattle.execution_map.proofs.first_unrun.Given as goal
 
 abbrev pub invariant-loop-at : goal.invariant-loop-at
 invariant-loop-at l = unrun_from l.map l.first (l.last + 1 - l.first) ≡ unrun_from l.map l.at (l.last + 1 - l.at)
-
-abbrev pub decreases-loop-at : goal.decreases-loop-at
-decreases-loop-at l = l.last + 1 - l.at
