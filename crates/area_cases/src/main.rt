@@ -108,7 +108,7 @@ fn started(m: Machine, s: Start) -> Machine {
 
 fn show_counts(rt: &impl Print, r: Ran) {
     number(rt, b" stop ", r.reply.number() as u64);
-    let counts = lines::run_numbers(r.cycles, r.instructions, r.entries, r.used, r.sent);
+    let counts = lines::run_numbers(r.counts);
     lines::counts(Line::empty(), counts).print(rt);
 }
 

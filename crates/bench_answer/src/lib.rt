@@ -17,13 +17,7 @@ fn stopped(ran: Ran) -> Line
 {
     let reply = ran.reply;
     let stop = lines::numbered(Line::empty(), b"stop ", reply.number() as u64);
-    let numbers = lines::run_numbers(
-        ran.cycles,
-        ran.instructions,
-        ran.entries,
-        ran.used,
-        ran.sent,
-    );
+    let numbers = lines::run_numbers(ran.counts);
     lines::registers(lines::counts(stop, numbers), ran.machine.chip.registers)
 }
 

@@ -11,7 +11,7 @@ use borrow.Author.Tests.{eq-eqb, lt-ltb, le-ltb}
 use Rattle.laws.proofs.Conds.{picks, passes}
 use Rattle.laws.proofs.Lists.{no_bytes}
 use Rattle.numbers.specs.Numbers.{over}
-use Rattle.replies.specs.Replies.{told, told_reply}
+use Rattle.replies.specs.Replies.{Told, told, told_reply}
 use Rattle.machine.specs.declared.Machine.{Machine}
 use Rattle.boundary.specs.declared.Watch.{Watch}
 use Rattle.boundary.specs.World.{Lent, lent, lending, Terms, terms, watching, unwatched}
@@ -23,9 +23,8 @@ use Rattle.asking.specs.Asking.{gives}
 use Rattle.saved.specs.Answers.{left_of, told_loaded, load_of}
 use Rattle.saved.proofs.Exactly.{load_gives}
 use Rattle.board_numbers.specs.Watch.{asks_log, unknown_bits}
-use Rattle.board_results.specs.declared.Counted.{Counted}
-use Rattle.board_results.specs.Results.{told_counts, no_counts, record_size, record_bytes, unfit_reply}
-use Rattle.board.specs.Board.{Buffers, buffers, Called, called, counts_of, counted_of, reported, refused_call, on_load, run_call, watch_call}
+use Rattle.board_results.specs.Results.{no_counts, record_size, record_bytes, unfit_reply}
+use Rattle.board.specs.Board.{Buffers, buffers, Called, called, counts_of, reported, refused_call, on_load, run_call, watch_call}
 
 module _ (leaping : Bool) (t : Terms) (b : Buffers) where
   pub run_short : {size : ℕ} → size ≡ record_size leaping → length b.result < size → called 29 b ≡ run_call leaping t b
@@ -40,31 +39,31 @@ module _ (leaping : Bool) (t : Terms) (b : Buffers) where
       sym (passes _ _ (ap (ltb (length b.result)) (sym s) ∙ le-ltb _ _ h) ∙ ap (on_load leaping t b) (sym e ∙ ap told_loaded f))
 
   -- a machine outside its ranges
-  pub refused_2 : {k : ℕ} {r : List ℕ} → k ≡ unfit_reply b.lent.image b.lent.area → r ≡ over (record_bytes leaping (told k none) no_counts 0) b.result
+  pub refused_2 : {u : Told} {k : ℕ} {r : List ℕ} → u ≡ told (unfit_reply b.lent.image b.lent.area) none
+      → (k ≡ u.number) × (r ≡ over (record_bytes leaping u no_counts 0) b.result)
       → called k (buffers b.machine b.lent r) ≡ refused_call leaping b 2
-  refused_2 {k} e f =
-      ap (λ (r : List ℕ). called k (buffers b.machine b.lent r)) f
-      ∙ ap (λ (k : ℕ). reported leaping (told k none) no_counts 0 b) e
+  refused_2 {u} {k} {r} e f =
+      ap (λ (k : ℕ). called k (buffers b.machine b.lent r)) f.0
+      ∙ ap (λ (r : List ℕ). called u.number (buffers b.machine b.lent r)) f.1
+      ∙ ap (λ (u : Told). reported leaping u no_counts 0 b) e
 
   -- a machine that ran: what is saved and reported of an answer and its leaps
   abbrev told_of : Answer → ℕ → Called
   told_of x leaps = reported leaping x.reply (counts_of x) leaps (buffers (saved_of x.machine) x.lent b.result)
 
-  pub ran_left : (m : Machine) (p : Leapt) (c : Counted) {k : ℕ} {l : Lent} {s r : List ℕ} → load_of b.machine ≡ gives m
+  pub ran_left : (m : Machine) (p : Leapt) {k : ℕ} {l : Lent} {s r : List ℕ} → load_of b.machine ≡ gives m
       → (answered p.ran l ≡ answer_of t m b.lent) × (p.leaps.0 ≡ leaps_of t m b.lent)
       → s ≡ left_of p.ran.machine b.machine
-      → c ≡ counted_of p.ran
       → (k ≡ (told_reply p.ran.reply).number)
-      × (r ≡ over (record_bytes leaping (told_reply p.ran.reply) (told_counts c) p.leaps.0) b.result)
+      × (r ≡ over (record_bytes leaping (told_reply p.ran.reply) p.ran.counts p.leaps.0) b.result)
       → called k (buffers s l r) ≡ on_load leaping t b (gives m)
-  ran_left m p c {k} {l} {s} {r} g a d f e =
+  ran_left m p {k} {l} {s} {r} g a d e =
       let n = told_reply p.ran.reply in
       let long = ((load_gives b.machine m).0 g).0 in
       let kept = saved_of p.ran.machine in
       ap (λ (k : ℕ). called k (buffers s l r)) e.0
       ∙ ap (λ (s : List ℕ). called n.number (buffers s l r)) (d ∙ picks _ _ (eq-eqb _ _ long))
       ∙ ap (λ (r : List ℕ). called n.number (buffers kept l r)) e.1
-      ∙ ap (λ (c : Counted). reported leaping n (told_counts c) p.leaps.0 (buffers kept l b.result)) f
       ∙ ap (λ (x : Answer). told_of x p.leaps.0) a.0
       ∙ ap (told_of (answer_of t m b.lent)) a.1
 

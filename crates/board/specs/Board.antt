@@ -6,17 +6,16 @@ use Rattle.std.specs.Prelude.{ℕ, Bool, true, false, cond, List, eqb, ltb, leng
 use Rattle.std.proofs.Math.Option.{none}
 use Rattle.numbers.specs.Numbers.{over}
 use Rattle.replies.specs.Replies.{Told, told}
+use Rattle.counts.specs.declared.Counts.{Counts}
 use Rattle.machine.specs.declared.Machine.{Machine}
 use Rattle.boundary.specs.declared.Watch.{Watch}
 use Rattle.boundary.specs.World.{Lent, Terms, watching}
-use Rattle.cabinet.specs.declared.Ran.{Ran}
 use Rattle.cabinet.specs.Answers.{Answer, answer_of, leaps_of}
 use Rattle.asking.specs.Asking.{Given, gives, replies}
 use Rattle.saved.specs.Layout.{saved_of}
 use Rattle.saved.specs.Answers.{load_of}
 use Rattle.board_numbers.specs.Watch.{asks_log, unknown_bits}
-use Rattle.board_results.specs.declared.Counted.{Counted}
-use Rattle.board_results.specs.Results.{Counts, counts, no_counts, record_size, record_bytes, unfit_reply}
+use Rattle.board_results.specs.Results.{counts, no_counts, record_size, record_bytes, unfit_reply}
 
 -- what a run is lent to write: the saved machine, what it runs on, and the result
 pub record Buffers : Type 0 where
@@ -35,13 +34,9 @@ pub record Called : Type 0 where
 abbrev pub called : ℕ → Buffers → Called
 called number left = record { number = number; left = left }
 
--- the counts that an answer reports, and those of the code's result
+-- the counts that an answer reports
 abbrev pub counts_of : Answer → Counts
 counts_of a = counts a.cycles a.instructions a.entries a.used a.sent
-
-abbrev pub counted_of : Ran → Counted
-counted_of r =
-    record { cycles = r.cycles; instructions = r.instructions; entries = r.entries; used = r.used; sent = r.sent }
 
 -- a reply with its record in the lent buffer
 abbrev pub reported : Bool → Told → Counts → ℕ → Buffers → Called

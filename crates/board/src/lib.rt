@@ -8,11 +8,9 @@ ghost use Rattle.boundary.specs.World.{lent, lending, terms, watching};
 ghost use Rattle.board_results.specs.Returned.{returned};
 ghost use Rattle.board_calls.specs.Calls.{wrote, power_call, ask_call, rest_call};
 ghost use Rattle.board_listing.specs.Calls.{list_call, assemble_call};
-ghost use Rattle.board.specs.Board.{counted_of, buffers, called, run_call, single_call, leaping_call, watch_call};
+ghost use Rattle.board.specs.Board.{buffers, called, run_call, single_call, leaping_call, watch_call};
 
-use board_results::Counted;
 use boundary::Watch;
-use cabinet::Ran;
 use counts::{Cycles, Records};
 use saved::LoadRefusal;
 
@@ -60,24 +58,6 @@ pub fn pliruzza_assemble(text: &[u8], buffer: &mut [u8], res: &mut [u8]) -> u32
     board_listing::assemble(text, buffer, res)
 }
 
-// The counts of a run.
-fn counted(ran: Ran) -> Counted
-    ensures { result ≡ counted_of ran }
-{
-    let cycles = ran.cycles;
-    let instructions = ran.instructions;
-    let entries = ran.entries;
-    let used = ran.used;
-    let sent = ran.sent;
-    Counted {
-        cycles: cycles,
-        instructions: instructions,
-        entries: entries,
-        used: used,
-        sent: sent,
-    }
-}
-
 // Either run of a saved machine, which is saved again where it was.
 fn run_call(
     leaping: bool,
@@ -105,20 +85,15 @@ fn run_call(
         Ok(m) => {
             let e = cabinet::watch_either(leaping, image, area, m, session, n, watch, output, log);
             let ran = e.ran;
-            let reply = ran.reply;
-            let left = ran.machine;
-            let leaps = e.leaps;
-            saved::save(left, machine);
-            let counted = counted(ran);
-            board_results::report(leaping, reply, counted, leaps, res)
+            saved::save(ran.machine, machine);
+            board_results::report(leaping, ran.reply, ran.counts, e.leaps, res)
         }
         Err(LoadRefusal::WrongLength) => 26,
         Err(LoadRefusal::WrongVersion) => 27,
         Err(LoadRefusal::NoMachine) => 28,
         Err(LoadRefusal::WrongMachine) => {
-            let number = board_results::unfit(&image[..], &area[..]);
-            board_results::refuse(leaping, number, res);
-            number
+            let reply = board_results::unfit(image, area);
+            board_results::refuse(leaping, reply, res)
         }
     }
 }

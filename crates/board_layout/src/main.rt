@@ -1,8 +1,7 @@
 // The places of what the C calls write, as board/pliruzza.h names them: each number is written with a byte of its own, and found again.
 #![tactic(auto)]
 
-use board_results::Counted;
-use counts::{Cycles, Entries, Instructions, Leaps, Records, Sent};
+use counts::{Counts, Cycles, Entries, Instructions, Leaps, Records, Sent};
 use opcodes::{Accumulator, Dyadic, Instruction, Operation, Place};
 use printing::Line;
 use replies::Reply;
@@ -28,7 +27,7 @@ fn place_of(v: u8, bytes: &[u8]) -> usize {
 
 // A run's result: the leaping run's, whose first bytes are the single run's.
 fn result() -> [u8; 44] {
-    let counted = Counted {
+    let counted = Counts {
         cycles: Cycles(0x11111111),
         instructions: Instructions(0x22222222),
         entries: Entries(0x33333333),

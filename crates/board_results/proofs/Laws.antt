@@ -5,9 +5,10 @@ use mathlib.Core.Bool.{Bool, true, false}
 use mathlib.Core.List.{List}
 use mathlib.Core.Path.{◌≡◌, ap}
 use lib.ListN.{length, length-append}
+use Rattle.counts.specs.declared.Counts.{Counts}
 use Rattle.numbers.specs.Numbers.{over}
 use Rattle.numbers.proofs.Laws.{length_little_endian, Laid}
-use Rattle.board_results.specs.Results.{Counts, head_bytes, result_bytes, record_size}
+use Rattle.board_results.specs.Results.{head_bytes, result_bytes, record_size}
 
 pub head_long : (reply : ℕ) (c : Counts) → length (head_bytes reply c) ≡ 16
 unfolding head_bytes

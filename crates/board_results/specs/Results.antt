@@ -3,22 +3,18 @@ use Rattle.std.specs.Prelude.{ℕ, Bool, not, cond, List, ◌++◌, eqb, length}
 use Rattle.std.proofs.Math.Option.{get_or}
 use Rattle.numbers.specs.Numbers.{little_endian}
 use Rattle.replies.specs.Replies.{Told}
-use Rattle.board_results.specs.declared.Counted.{Counted}
+use Rattle.counts.specs.declared.Counts.{Counts}
 
 -- the counts that both runs report
-pub record Counts : Type 0 where
-  pub cycles : ℕ
-  pub instructions : ℕ
-  pub entries : ℕ
-  pub used : ℕ
-  pub sent : ℕ
-
 abbrev pub counts : ℕ → ℕ → ℕ → ℕ → ℕ → Counts
 counts cycles instructions entries used sent =
-    record { cycles = cycles; instructions = instructions; entries = entries; used = used; sent = sent }
-
-abbrev pub told_counts : Counted → Counts
-told_counts c = counts c.cycles.0 c.instructions.0 c.entries.0 c.used.0 c.sent.0
+    record {
+      cycles = record { 0 = cycles };
+      instructions = record { 0 = instructions };
+      entries = record { 0 = entries };
+      used = record { 0 = used };
+      sent = record { 0 = sent };
+    }
 
 -- "Replies 1 to 7 have all counts zero", and 12 leaves "what 1 leaves"
 abbrev pub no_counts : Counts
@@ -27,12 +23,12 @@ no_counts = counts 0 0 0 0 0
 -- the first 16 bytes: at 0 the reply, at 4 cycles, at 8 instructions, at 12 interrupt entries
 unfoldable pub head_bytes : ℕ → Counts → List ℕ
 head_bytes reply c =
-    little_endian 4 reply ++ little_endian 4 c.cycles ++ little_endian 4 c.instructions ++ little_endian 4 c.entries
+    little_endian 4 reply ++ little_endian 4 c.cycles.0 ++ little_endian 4 c.instructions.0 ++ little_endian 4 c.entries.0
 
 -- 40 bytes: these, at 16 records used, at 24 bytes sent, at 32 a record's number
 unfoldable pub result_bytes : ℕ → ℕ → Counts → List ℕ
 result_bytes reply named c =
-    head_bytes reply c ++ little_endian 8 c.used ++ little_endian 8 c.sent ++ little_endian 8 named
+    head_bytes reply c ++ little_endian 8 c.used.0 ++ little_endian 8 c.sent.0 ++ little_endian 8 named
 
 -- the single run's record; "4 to 7 name the record", other replies 0
 abbrev pub single_bytes : Told → Counts → List ℕ

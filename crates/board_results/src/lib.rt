@@ -6,21 +6,11 @@ ghost use Rattle.std.specs.Prelude.{◌≡◌, ◌≤◌, length};
 ghost use Rattle.std.proofs.Math.Option.{none, some};
 ghost use Rattle.numbers.specs.Numbers.{over};
 ghost use Rattle.replies.specs.Replies.{told, told_reply};
-ghost use Rattle.board_results.specs.Results.{told_counts, no_counts, head_bytes, result_bytes, with_leaps, record_size, record_bytes, unfit_reply};
+ghost use Rattle.board_results.specs.Results.{no_counts, head_bytes, result_bytes, with_leaps, record_size, record_bytes, unfit_reply};
 ghost use Rattle.board_results.specs.Returned.{named_in};
 
-use counts::{Cycles, Entries, Instructions, Leaps, Records, Sent};
+use counts::{Counts, Leaps};
 use replies::Reply;
-
-// The counts that both runs report.
-#[derive(Clone, Copy)]
-pub struct Counted {
-    pub cycles: Cycles,
-    pub instructions: Instructions,
-    pub entries: Entries,
-    pub used: Records,
-    pub sent: Sent,
-}
 
 // The bytes of a record: the leaping run's has the leaps besides.
 pub fn record_size(leaping: bool) -> usize
@@ -30,9 +20,9 @@ pub fn record_size(leaping: bool) -> usize
 }
 
 // The first 16 of the 40 bytes that both runs report.
-fn write_head(number: u32, counted: Counted, res: &mut [u8])
+fn write_head(number: u32, counted: Counts, res: &mut [u8])
     requires { 16 ≤ length res.old }
-    ensures { res.new ≡ over (head_bytes number (told_counts counted)) res.old }
+    ensures { res.new ≡ over (head_bytes number counted) res.old }
 {
     numbers::put(&mut res[0..4], number as u64);
     numbers::put(&mut res[4..8], counted.cycles.0 as u64);
@@ -41,9 +31,9 @@ fn write_head(number: u32, counted: Counted, res: &mut [u8])
 }
 
 // The 40 bytes.
-fn write(number: u32, named: usize, counted: Counted, res: &mut [u8])
+fn write(number: u32, named: usize, counted: Counts, res: &mut [u8])
     requires { 40 ≤ length res.old }
-    ensures { res.new ≡ over (result_bytes number named (told_counts counted)) res.old }
+    ensures { res.new ≡ over (result_bytes number named counted) res.old }
 {
     write_head(number, counted, res);
     numbers::put(&mut res[16..24], counted.used.0 as u64);
@@ -52,10 +42,10 @@ fn write(number: u32, named: usize, counted: Counted, res: &mut [u8])
 }
 
 // The whole record: the leaps after these, where the run leaps.
-fn record(leaping: bool, number: u32, named: usize, counted: Counted, leaps: Leaps, res: &mut [u8])
+fn record(leaping: bool, number: u32, named: usize, counted: Counts, leaps: Leaps, res: &mut [u8])
     requires { record_size leaping ≤ length res.old }
     ensures { res.new
-        ≡ over (with_leaps leaping leaps.0 (result_bytes number named (told_counts counted))) res.old }
+        ≡ over (with_leaps leaping leaps.0 (result_bytes number named counted)) res.old }
 {
     write(number, named, counted, res);
     if leaping {
@@ -64,43 +54,36 @@ fn record(leaping: bool, number: u32, named: usize, counted: Counted, leaps: Lea
 }
 
 // A run's record; returns the reply's number.
-pub fn report(leaping: bool, reply: Reply, counted: Counted, leaps: Leaps, res: &mut [u8]) -> u32
+pub fn report(leaping: bool, reply: Reply, counted: Counts, leaps: Leaps, res: &mut [u8]) -> u32
     requires { record_size leaping ≤ length res.old }
     ensures { (result ≡ (told_reply reply).number)
-        × (res.new ≡ over (record_bytes leaping (told_reply reply) (told_counts counted) leaps.0) res.old) }
+        × (res.new ≡ over (record_bytes leaping (told_reply reply) counted leaps.0) res.old) }
 {
     let number = reply.number() as u32;
-    let named = reply.record();
-    record(leaping, number, named, counted, leaps, res);
+    record(leaping, number, reply.record(), counted, leaps, res);
     number
 }
 
 // The reply to a machine outside its ranges: image and area are tested first.
-pub fn unfit(image: &[u8], area: &[u8]) -> u32
-    ensures { result ≡ unfit_reply image.now area.now }
+pub fn unfit(image: &[u8], area: &[u8]) -> Reply
+    ensures { told_reply result ≡ told (unfit_reply image.now area.now) none }
 {
     if image.len() != 65536 {
-        return 1;
+        return Reply::WrongImage;
     }
     if area.len() != 128 {
-        return 12;
+        return Reply::WrongArea;
     }
-    2
+    Reply::WrongMachine
 }
 
-// The record of a refusal that names no record: all counts zero.
-pub fn refuse(leaping: bool, number: u32, res: &mut [u8])
+// The record of a refusal before a run: all counts zero.
+pub fn refuse(leaping: bool, reply: Reply, res: &mut [u8]) -> u32
     requires { record_size leaping ≤ length res.old }
-    ensures { res.new ≡ over (record_bytes leaping (told number none) no_counts 0) res.old }
+    ensures { (result ≡ (told_reply reply).number)
+        × (res.new ≡ over (record_bytes leaping (told_reply reply) no_counts 0) res.old) }
 {
-    let none = Counted {
-        cycles: Cycles(0),
-        instructions: Instructions(0),
-        entries: Entries(0),
-        used: Records(0),
-        sent: Sent(0),
-    };
-    record(leaping, number, 0, none, Leaps(0), res);
+    report(leaping, reply, Counts::default(), Leaps(0), res)
 }
 
 // A number in the result of a reply, which is returned.

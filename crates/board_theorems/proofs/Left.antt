@@ -11,6 +11,7 @@ use lib.ListN.{length, take}
 use lib.Seq.{take_at}
 use borrow.Author.Tests.{eq-eqb, le-ltb}
 use Rattle.laws.proofs.Conds.{picks, passes}
+use Rattle.counts.specs.declared.Counts.{Counts}
 use Rattle.numbers.specs.Numbers.{little_endian, over}
 use Rattle.replies.specs.Replies.{Told, told, stops}
 use Rattle.bus.specs.Access.{memories}
@@ -28,7 +29,7 @@ use Rattle.saved.specs.Answers.{load_of}
 use Rattle.saved.proofs.Back.{Bytes, load_then_save}
 use Rattle.saved.proofs.Kept.{save_then_load}
 use Rattle.saved.proofs.Exactly.{loaded_ranges}
-use Rattle.board_results.specs.Results.{Counts, no_counts, record_size, record_bytes, unfit_reply}
+use Rattle.board_results.specs.Results.{no_counts, record_size, record_bytes, unfit_reply}
 use Rattle.board_results.proofs.Laws.{result_long}
 use Rattle.board_calls.specs.Calls.{wrote, on_power, power_call}
 use Rattle.board.specs.Board.{Buffers, Called, called, counts_of, reported, on_load, run_call, single_call, leaping_call}

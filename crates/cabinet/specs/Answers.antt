@@ -79,11 +79,11 @@ answered r l =
     record {
       reply = told_reply r.reply;
       machine = r.machine;
-      cycles = r.cycles.0;
-      instructions = r.instructions.0;
-      entries = r.entries.0;
-      used = r.used.0;
-      sent = r.sent.0;
+      cycles = r.counts.cycles.0;
+      instructions = r.counts.instructions.0;
+      entries = r.counts.entries.0;
+      used = r.counts.used.0;
+      sent = r.counts.sent.0;
       lent = l;
     }
 
@@ -93,11 +93,7 @@ report_of e =
     record {
       reply = e.reply;
       machine = s.machine;
-      cycles = s.cycles;
-      instructions = s.instructions;
-      entries = s.entries;
-      used = s.used;
-      sent = s.sent;
+      counts = record { cycles = s.cycles; instructions = s.instructions; entries = s.entries; used = s.used; sent = s.sent };
     }
 
 abbrev pub ended_with : Ending → Lent → End

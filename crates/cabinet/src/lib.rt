@@ -13,7 +13,7 @@ ghost use Rattle.cabinet.specs.Answers.{refusal_of, told_admission, told_stop, e
 ghost use Rattle.cabinet.specs.Answers.{report_of, answered, answer_of, leaps_of};
 
 use boundary::{State, Stop, Watch};
-use counts::{Cycles, Entries, Instructions, Leaps, Records, Sent};
+use counts::{Counts, Cycles, Entries, Instructions, Leaps, Records, Sent};
 use machine::{Machine, PowerRefusal};
 use opcodes::Instruction;
 use replies::Reply;
@@ -23,11 +23,7 @@ use replies::Reply;
 pub struct Ran {
     pub reply: Reply,
     pub machine: Machine,
-    pub cycles: Cycles,
-    pub instructions: Instructions,
-    pub entries: Entries,
-    pub used: Records,
-    pub sent: Sent,
+    pub counts: Counts,
 }
 
 // What the leaping run reports: the same, and how many leaps there were.
@@ -131,21 +127,17 @@ impl Ending {
     fn report(self) -> Ran
         ensures { result ≡ report_of self }
     {
-        let reply = self.reply;
-        let machine = self.state.machine;
-        let cycles = self.state.cycles;
-        let instructions = self.state.instructions;
-        let entries = self.state.entries;
-        let used = self.state.used;
-        let sent = self.state.sent;
+        let state = self.state;
         Ran {
-            reply: reply,
-            machine: machine,
-            cycles: cycles,
-            instructions: instructions,
-            entries: entries,
-            used: used,
-            sent: sent,
+            reply: self.reply,
+            machine: state.machine,
+            counts: Counts {
+                cycles: state.cycles,
+                instructions: state.instructions,
+                entries: state.entries,
+                used: state.used,
+                sent: state.sent,
+            },
         }
     }
 }

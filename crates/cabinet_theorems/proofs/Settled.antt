@@ -15,11 +15,13 @@ same_answer r r' l l' e =
       λ k. record {
         reply = p k;
         machine = (e k).machine;
-        cycles = record { 0 = (e k).cycles };
-        instructions = record { 0 = (e k).instructions };
-        entries = record { 0 = (e k).entries };
-        used = record { 0 = (e k).used };
-        sent = record { 0 = (e k).sent };
+        counts = record {
+          cycles = record { 0 = (e k).cycles };
+          instructions = record { 0 = (e k).instructions };
+          entries = record { 0 = (e k).entries };
+          used = record { 0 = (e k).used };
+          sent = record { 0 = (e k).sent };
+        };
       },
       ap (λ (a : Answer). a.lent) e,
     )

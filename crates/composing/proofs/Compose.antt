@@ -230,8 +230,8 @@ module _ (session : List ℕ) (watch : Watch) (n₁ n : ℕ) (m : Machine) (give
       -- the same of what the calls return: a run's report, with the memories, the output and the log that it leaves
       pub calls_resume : (r₁ r₂ r : Ran) (l₁ l₂ k : Lent) (log : List ℕ)
           → Single asked₁ m given r₁ l₁
-          → Single (terms_after r₁.used.0 r₁.cycles.0 asked) r₁.machine (with_log (lent_after watch r₁.sent.0 r₁.entries.0 l₁) log) r₂ l₂
-          → Single asked m (lent_over watch r₁.entries.0 log given) r k
+          → Single (terms_after r₁.counts.used.0 r₁.counts.cycles.0 asked) r₁.machine (with_log (lent_after watch r₁.counts.sent.0 r₁.counts.entries.0 l₁) log) r₂ l₂
+          → Single asked m (lent_over watch r₁.counts.entries.0 log given) r k
           → answered r k ≡ joined watch (answered r₁ l₁) (answered r₂ l₂)
       calls_resume r₁ r₂ r l₁ l₂ k log p q u =
           subst
@@ -262,7 +262,7 @@ module _ (session : List ℕ) (watch : Watch) (n₁ n : ℕ) (m : Machine) (give
 
       pub calls_compose : (r₁ r₂ r : Ran) (l₁ l₂ k : Lent)
           → Single asked₁ m given r₁ l₁
-          → Single (terms_after r₁.used.0 r₁.cycles.0 asked) r₁.machine (lent_after watch r₁.sent.0 r₁.entries.0 l₁) r₂ l₂
+          → Single (terms_after r₁.counts.used.0 r₁.counts.cycles.0 asked) r₁.machine (lent_after watch r₁.counts.sent.0 r₁.counts.entries.0 l₁) r₂ l₂
           → Single asked m given r k
           → answered r k ≡ joined watch (answered r₁ l₁) (answered r₂ l₂)
       calls_compose r₁ r₂ r l₁ l₂ k p q u =

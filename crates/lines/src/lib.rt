@@ -7,7 +7,7 @@ ghost use Rattle.printing.specs.Printing.{decimal_of, hexadecimal_of, empty_line
 ghost use Rattle.replies.specs.Replies.{told_reply};
 ghost use Rattle.lines.specs.Lines.{counts_text, registers_text, refused_text, refusal};
 
-use counts::{Cycles, Entries, Instructions, Records, Sent};
+use counts::Counts;
 use printing::Line;
 use registers::Registers;
 use replies::Reply;
@@ -23,21 +23,15 @@ pub struct Numbers {
 }
 
 // The counts of one run.
-pub fn run_numbers(
-    cycles: Cycles,
-    instructions: Instructions,
-    entries: Entries,
-    used: Records,
-    sent: Sent,
-) -> Numbers
-    ensures { result ≡ record { cycles = cycles.0; instructions = instructions.0; entries = entries.0; used = used.0; sent = sent.0 } }
+pub fn run_numbers(c: Counts) -> Numbers
+    ensures { result ≡ record { cycles = c.cycles.0; instructions = c.instructions.0; entries = c.entries.0; used = c.used.0; sent = c.sent.0 } }
 {
     Numbers {
-        cycles: cycles.0 as u64,
-        instructions: instructions.0 as u64,
-        entries: entries.0 as u64,
-        used: used.0 as u64,
-        sent: sent.0 as u64,
+        cycles: c.cycles.0 as u64,
+        instructions: c.instructions.0 as u64,
+        entries: c.entries.0 as u64,
+        used: c.used.0 as u64,
+        sent: c.sent.0 as u64,
     }
 }
 

@@ -46,14 +46,14 @@ module _ (n : Night) (l : Leapt) (image area session output log : List ℕ) {c :
   fitted : (k i : ℕ) (whole part : List ℕ) {x : ℕ} → i ≡ x → x ≤ length part → part ≡ drop k whole → k ≤ length whole → k + i ≤ length whole
   fitted k i whole part f s d h = let g = ap length d ∙ length-drop k whole in omega (arith, f, s, g, h)
 
-  pub sent_fits : n.sent ≤ length output → n.sent + l.ran.sent.0 ≤ length output
+  pub sent_fits : n.sent ≤ length output → n.sent + l.ran.counts.sent.0 ≤ length output
   sent_fits h =
-      fitted n.sent l.ran.sent.0 output part (ap (λ (x : Answer). x.sent) a)
+      fitted n.sent l.ran.counts.sent.0 output part (ap (λ (x : Answer). x.sent) a)
       (output_left (asked c) n.machine (lending image area part rows)).0 p h
 
-  pub logged_fits : n.logged ≤ length log → n.logged + logged_bytes n.watch l.ran.entries.0 ≤ length log
+  pub logged_fits : n.logged ≤ length log → n.logged + logged_bytes n.watch l.ran.counts.entries.0 ≤ length log
   logged_fits h =
-      fitted n.logged (logged_bytes n.watch l.ran.entries.0) log rows (ap (λ (x : Answer). logged_bytes n.watch x.entries) a)
+      fitted n.logged (logged_bytes n.watch l.ran.counts.entries.0) log rows (ap (λ (x : Answer). logged_bytes n.watch x.entries) a)
       (log_left (asked c) n.machine (lending image area part rows)).0 q h
 
   -- the run was asked and lent what a slice is
@@ -67,7 +67,7 @@ module _ (n : Night) (l : Leapt) (image area session output log : List ℕ) {c :
       ∙ ap (λ (o : List ℕ). f (asked (slice_cycles n.left)) (lending image area (drop n.sent output) o)) q
 
   pub sliced : l.leaps.0 ≡ leaps_of (asked c) n.machine (lending image area part rows) → (k : Kept) (session' : List ℕ)
-      → kept k session' ≡ keeping_of (told_reply l.ran.reply) (take n.length session) l.ran.used.0 l.ran.cycles.0
+      → kept k session' ≡ keeping_of (told_reply l.ran.reply) (take n.length session) l.ran.counts.used.0 l.ran.counts.cycles.0
       → {r : Night} → r ≡ next_of n l k → {output' log' : List ℕ} → output' ≡ take n.sent output ++ part' → log' ≡ take n.logged log ++ rows'
       → standing r (lending image' area' output' log') session' ≡ slice_of (standing n (lending image area output log) session)
   unfolding slice_of
@@ -87,9 +87,9 @@ fitting a b h g = omega arith
 pub next_size : (n : Night) (l : Leapt) (k : Kept) {r : Night} → r ≡ next_of n l k → k.length ≤ n.length → r.length ≤ n.length
 next_size n l k d h = let z = ap (λ (x : Night). x.length) d in omega (arith, z, h)
 
-pub next_sent : (n : Night) (l : Leapt) (k : Kept) {r : Night} {o : ℕ} → r ≡ next_of n l k → n.sent + l.ran.sent.0 ≤ o → r.sent ≤ o
+pub next_sent : (n : Night) (l : Leapt) (k : Kept) {r : Night} {o : ℕ} → r ≡ next_of n l k → n.sent + l.ran.counts.sent.0 ≤ o → r.sent ≤ o
 next_sent n l k d h = let z = ap (λ (x : Night). x.sent) d in omega (arith, z, h)
 
-pub next_logged : (n : Night) (l : Leapt) (k : Kept) {r : Night} {o : ℕ} → r ≡ next_of n l k → n.logged + logged_bytes n.watch l.ran.entries.0 ≤ o
+pub next_logged : (n : Night) (l : Leapt) (k : Kept) {r : Night} {o : ℕ} → r ≡ next_of n l k → n.logged + logged_bytes n.watch l.ran.counts.entries.0 ≤ o
     → r.logged ≤ o
 next_logged n l k {r} {o} d h = subst (λ (j : ℕ). j ≤ o) (sym (ap (λ (x : Night). x.logged) d)) h

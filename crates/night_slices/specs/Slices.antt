@@ -166,7 +166,7 @@ standing n given session =
 
 -- a slice's numbers, for its line
 abbrev pub ran_numbers : Ran → Numbers
-ran_numbers r = record { cycles = r.cycles.0; instructions = r.instructions.0; entries = r.entries.0; used = r.used.0; sent = r.sent.0 }
+ran_numbers r = record { cycles = r.counts.cycles.0; instructions = r.counts.instructions.0; entries = r.counts.entries.0; used = r.counts.used.0; sent = r.counts.sent.0 }
 
 -- the night at its start, and after a slice, as the code has them
 abbrev pub beginning : SliceEnd → Machine → ℕ → ℕ → Watch → Night
@@ -194,14 +194,14 @@ next_of n l k =
       ended = k.ended;
       machine = r.machine;
       length = k.length;
-      left = n.left - r.cycles.0;
-      watch = later n.watch r.cycles.0;
-      sent = n.sent + r.sent.0;
-      logged = n.logged + logged_bytes n.watch r.entries.0;
+      left = n.left - r.counts.cycles.0;
+      watch = later n.watch r.counts.cycles.0;
+      sent = n.sent + r.counts.sent.0;
+      logged = n.logged + logged_bytes n.watch r.counts.entries.0;
       slices = record { 0 = round_sum n.slices.0 1 };
-      cycles = record { 0 = round_sum n.cycles.0 r.cycles.0 };
-      instructions = record { 0 = round_sum n.instructions.0 r.instructions.0 };
-      entries = record { 0 = round_sum n.entries.0 r.entries.0 };
-      used = record { 0 = round_sum n.used.0 r.used.0 };
+      cycles = record { 0 = round_sum n.cycles.0 r.counts.cycles.0 };
+      instructions = record { 0 = round_sum n.instructions.0 r.counts.instructions.0 };
+      entries = record { 0 = round_sum n.entries.0 r.counts.entries.0 };
+      used = record { 0 = round_sum n.used.0 r.counts.used.0 };
       leaps = record { 0 = round_sum n.leaps.0 l.leaps.0 };
     }

@@ -99,13 +99,7 @@ fn slice_line(number: u64, leapt: Leapt) -> Line
 {
     let ran = leapt.ran;
     let reply = ran.reply;
-    let numbers = lines::run_numbers(
-        ran.cycles,
-        ran.instructions,
-        ran.entries,
-        ran.used,
-        ran.sent,
-    );
+    let numbers = lines::run_numbers(ran.counts);
     night_lines::slice_line(number, reply.number(), numbers, leapt.leaps.0 as u64)
 }
 
@@ -216,8 +210,8 @@ impl Night {
 
     // The night after a slice.
     fn after(self, leapt: Leapt, kept: Kept) -> Night
-        requires { (self.sent + leapt.ran.sent.0 < 2 ^ 64)
-            × (self.logged + logged_bytes self.watch leapt.ran.entries.0 < 2 ^ 64) }
+        requires { (self.sent + leapt.ran.counts.sent.0 < 2 ^ 64)
+            × (self.logged + logged_bytes self.watch leapt.ran.counts.entries.0 < 2 ^ 64) }
         ensures { result ≡ next_of self leapt kept }
     {
         let ran = leapt.ran;
@@ -228,18 +222,18 @@ impl Night {
             ended: ended,
             machine: machine,
             length: kept.length,
-            left: left_after(self.left, ran.cycles),
-            watch: watch.later(ran.cycles),
-            sent: self.sent + ran.sent.0,
-            logged: self.logged + watch.logged(ran.entries),
+            left: left_after(self.left, ran.counts.cycles),
+            watch: watch.later(ran.counts.cycles),
+            sent: self.sent + ran.counts.sent.0,
+            logged: self.logged + watch.logged(ran.counts.entries),
             slices: NightSlices(wrapping_add_u64(self.slices.0, 1)),
-            cycles: NightCycles(wrapping_add_u64(self.cycles.0, ran.cycles.0 as u64)),
+            cycles: NightCycles(wrapping_add_u64(self.cycles.0, ran.counts.cycles.0 as u64)),
             instructions: NightInstructions(wrapping_add_u64(
                 self.instructions.0,
-                ran.instructions.0 as u64,
+                ran.counts.instructions.0 as u64,
             )),
-            entries: NightEntries(wrapping_add_u64(self.entries.0, ran.entries.0 as u64)),
-            used: NightRecords(wrapping_add_u64(self.used.0, ran.used.0 as u64)),
+            entries: NightEntries(wrapping_add_u64(self.entries.0, ran.counts.entries.0 as u64)),
+            used: NightRecords(wrapping_add_u64(self.used.0, ran.counts.used.0 as u64)),
             leaps: NightLeaps(wrapping_add_u64(self.leaps.0, leapt.leaps.0 as u64)),
         }
     }
@@ -318,7 +312,7 @@ fn slice(
     announce(rt, wrapping_add_u64(night.slices.0, 1), leapt);
     let ran = leapt.ran;
     let reply = ran.reply;
-    let kept = keep(session, size, reply, ran.used, ran.cycles, spare);
+    let kept = keep(session, size, reply, ran.counts.used, ran.counts.cycles, spare);
     night.after(leapt, kept)
 }
 

@@ -28,7 +28,7 @@ fn rom(code: &[u8], handler: &[u8]) -> [u8; 65536] {
 fn show(rt: &impl Print, r: Ran, first: u8, second: u8) {
     let c = r.machine.chip.registers;
     number(rt, b" stop ", r.reply.number() as u64);
-    let counts = lines::run_numbers(r.cycles, r.instructions, r.entries, r.used, r.sent);
+    let counts = lines::run_numbers(r.counts);
     lines::counts(Line::empty(), counts).print(rt);
     hexadecimal(rt, b" pc ", c.pc as u64, 4);
     hexadecimal(rt, b" a ", c.a as u64, 2);

@@ -19,8 +19,8 @@ returns-in-Ok c = let a = c.args in
     let g = c.load-loaded.ensures in
     let e = c.in-Ok.is in
     let run = c.watch_either-e in
-    ran_left a.leaping t b _ run.result _ (sym g ∙ ap told_loaded e) run.ensures
-    c.save.ensures.fact_2 c.counted-counted.ensures c.report.ensures
+    ran_left a.leaping t b _ run.result (sym g ∙ ap told_loaded e) run.ensures
+    c.save.ensures.fact_2 c.report.ensures
     ∙ on_loaded a.leaping t b c.record_size-size.ensures c.if-res-size.false g _ e
 
 pub returns-in-Err-WrongLength : goal.returns-in-Err-WrongLength
@@ -48,6 +48,6 @@ pub returns-in-Err-WrongMachine : goal.returns-in-Err-WrongMachine
 returns-in-Err-WrongMachine c = let a = c.args in
     let t = watching a.session.now a.n a.watch in
     let b = buffers a.machine.now (lending a.image.now a.area.now a.output.now a.log.now) a.res.now in
-    refused_2 a.leaping t b c.unfit-number.ensures c.refuse.ensures
+    refused_2 a.leaping t b c.unfit-reply.ensures c.refuse.ensures
     ∙ on_loaded a.leaping t b c.record_size-size.ensures c.if-res-size.false
     c.load-loaded.ensures _ c.in-Err-WrongMachine.is

@@ -10,10 +10,10 @@ after-requires g c =
     let a = c.args in
     let l = c.watch_leaping-leapt in
     let h = c.requires in
-    let sent : a.night.sent + l.result.ran.sent.0 ≤ length a.output.now =
+    let sent : a.night.sent + l.result.ran.counts.sent.0 ≤ length a.output.now =
     sent_fits a.night l.result a.image.now a.area.now a.session.now a.output.now a.log.now l.ensures.0 c.slice_of.ensures
     (take_rest a.night.sent a.output.now) (take_rest a.night.logged a.log.now) h.2 in
-    let logged : a.night.logged + logged_bytes a.night.watch l.result.ran.entries.0 ≤ length a.log.now =
+    let logged : a.night.logged + logged_bytes a.night.watch l.result.ran.counts.entries.0 ≤ length a.log.now =
     logged_fits a.night l.result a.image.now a.area.now a.session.now a.output.now a.log.now l.ensures.0 c.slice_of.ensures
     (take_rest a.night.sent a.output.now) (take_rest a.night.logged a.log.now) h.3 in
     (fitting _ _ sent (omega arith), fitting _ _ logged (omega arith))
@@ -23,10 +23,10 @@ returns g c =
     let a = c.args in
     let l = c.watch_leaping-leapt in
     let h = c.requires in
-    let sent : a.night.sent + l.result.ran.sent.0 ≤ length a.output.now =
+    let sent : a.night.sent + l.result.ran.counts.sent.0 ≤ length a.output.now =
     sent_fits a.night l.result a.image.now a.area.now a.session.now a.output.now a.log.now l.ensures.0 c.slice_of.ensures
     (take_rest a.night.sent a.output.now) (take_rest a.night.logged a.log.now) h.2 in
-    let logged : a.night.logged + logged_bytes a.night.watch l.result.ran.entries.0 ≤ length a.log.now =
+    let logged : a.night.logged + logged_bytes a.night.watch l.result.ran.counts.entries.0 ≤ length a.log.now =
     logged_fits a.night l.result a.image.now a.area.now a.session.now a.output.now a.log.now l.ensures.0 c.slice_of.ensures
     (take_rest a.night.sent a.output.now) (take_rest a.night.logged a.log.now) h.3 in
     let k = c.keep-kept in (
