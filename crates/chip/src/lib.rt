@@ -44,10 +44,9 @@ fn read_word(b: Clocked, image: &[u8], area: &[u8], at: u16) -> Read<u16, Clocke
 {
     let h = b.read(image, area, at);
     let l = h.next.read(image, area, plus(at, 1));
-    let next = l.next;
     Read {
         value: bits::pair(h.value, l.value),
-        next: next,
+        next: l.next,
     }
 }
 
@@ -64,13 +63,9 @@ fn spot_at(at: u16, c: Registers, b: Clocked, n: u16) -> Read<u16, Core>
     ensures { result ≡ record { value = at; next = core_of (with_pc c (up c.pc n)) b } }
 {
     let registers = c.with_pc(plus(c.pc, n));
-    let core = Core {
-        registers: registers,
-        bus: b,
-    };
     Read {
         value: at,
-        next: core,
+        next: Core { registers, bus: b },
     }
 }
 
@@ -83,9 +78,10 @@ impl Core {
         let c = self.registers;
         let b = self.bus;
         match place {
-            Place::Inherent => Read { value: 0, next: self },
-            Place::AccumulatorA => Read { value: 0, next: self },
-            Place::AccumulatorB => Read { value: 0, next: self },
+            Place::Inherent | Place::AccumulatorA | Place::AccumulatorB => Read {
+                value: 0,
+                next: self,
+            },
             Place::ImmediateByte => spot_at(c.pc, c, b, 1),
             Place::ImmediateWord => spot_at(c.pc, c, b, 2),
             Place::Direct => {
@@ -116,10 +112,9 @@ impl Core {
     {
         let c = self.registers;
         let bus = self.bus.write(image, area, c.sp, v);
-        let registers = c.with_sp(minus(c.sp, 1));
         Core {
-            registers: registers,
-            bus: bus,
+            registers: c.with_sp(minus(c.sp, 1)),
+            bus,
         }
     }
 
@@ -138,15 +133,12 @@ impl Core {
         let c = self.registers;
         let sp = plus(c.sp, 1);
         let f = self.bus.read(image, area, sp);
-        let bus = f.next;
-        let registers = c.with_sp(sp);
-        let core = Core {
-            registers: registers,
-            bus: bus,
-        };
         Read {
             value: f.value,
-            next: core,
+            next: Core {
+                registers: c.with_sp(sp),
+                bus: f.next,
+            },
         }
     }
 
@@ -156,10 +148,9 @@ impl Core {
     {
         let h = self.pull(image, area);
         let l = h.next.pull(image, area);
-        let core = l.next;
         Read {
             value: bits::pair(h.value, l.value),
-            next: core,
+            next: l.next,
         }
     }
 
@@ -186,7 +177,6 @@ impl Core {
         let x = a.next.pull_word(image, area);
         let pc = x.next.pull_word(image, area);
         let core = pc.next;
-        let bus = core.bus;
         let registers = Registers {
             a: a.value,
             b: b.value,
@@ -196,10 +186,7 @@ impl Core {
             codes: arithmetic::Codes::from(k.value),
             waiting: self.registers.waiting,
         };
-        Core {
-            registers: registers,
-            bus: bus,
-        }
+        Core { registers, ..core }
     }
 
     // I set, PC from a vector, no wait.
@@ -209,14 +196,13 @@ impl Core {
     {
         let c = self.registers;
         let w = read_word(self.bus, image, area, vector);
-        let bus = w.next;
         let registers = c
             .with_pc(w.value)
             .with_codes(registers::with_i(c.codes, true))
             .with_waiting(false);
         Core {
-            registers: registers,
-            bus: bus,
+            registers,
+            bus: w.next,
         }
     }
 
@@ -231,11 +217,9 @@ impl Core {
         ensures { run_on wai self (memories image.old area.old) ≡ ran result (memories image.new area.new) }
     {
         let p = self.stack_all(image, area);
-        let bus = p.bus;
-        let registers = p.registers.with_waiting(true);
         Core {
-            registers: registers,
-            bus: bus,
+            registers: p.registers.with_waiting(true),
+            ..p
         }
     }
 
@@ -257,11 +241,9 @@ impl Core {
     fn quiet(self, op: Quiet, at: u16) -> Core
         ensures { result ≡ with_registers self (quiet_of op at self.registers) }
     {
-        let bus = self.bus;
-        let registers = op.done(at, self.registers);
         Core {
-            registers: registers,
-            bus: bus,
+            registers: op.done(at, self.registers),
+            ..self
         }
     }
 
@@ -271,11 +253,9 @@ impl Core {
     {
         let c = self.registers;
         let f = self.bus.read(image, area, op.address(at, c));
-        let bus = f.next;
-        let registers = op.loaded(f.value, c);
         Core {
-            registers: registers,
-            bus: bus,
+            registers: op.loaded(f.value, c),
+            bus: f.next,
         }
     }
 
@@ -285,11 +265,9 @@ impl Core {
     {
         let c = self.registers;
         let w = read_word(self.bus, image, area, op.address(at, c));
-        let bus = w.next;
-        let registers = op.loaded(w.value, c);
         Core {
-            registers: registers,
-            bus: bus,
+            registers: op.loaded(w.value, c),
+            bus: w.next,
         }
     }
 
@@ -299,10 +277,9 @@ impl Core {
     {
         let c = self.registers;
         let bus = self.bus.write(image, area, op.address(at, c), op.byte(c));
-        let registers = op.stored(c);
         Core {
-            registers: registers,
-            bus: bus,
+            registers: op.stored(c),
+            bus,
         }
     }
 
@@ -312,10 +289,9 @@ impl Core {
     {
         let c = self.registers;
         let bus = write_word(self.bus, image, area, at, c.stored(op));
-        let registers = operations::stored_word(op, c);
         Core {
-            registers: registers,
-            bus: bus,
+            registers: operations::stored_word(op, c),
+            bus,
         }
     }
 
@@ -328,10 +304,9 @@ impl Core {
         let f = self.bus.read(image, area, at);
         let r = arithmetic::monadic(op, f.value, c.codes);
         let bus = f.next.write(image, area, at, r.value);
-        let registers = c.with_codes(r.codes);
         Core {
-            registers: registers,
-            bus: bus,
+            registers: c.with_codes(r.codes),
+            bus,
         }
     }
 
@@ -340,11 +315,9 @@ impl Core {
             ≡ ran result (memories image.new area.new) }
     {
         let p = self.push_word(op.word(self.registers), image, area);
-        let bus = p.bus;
-        let registers = op.pushed(at, p.registers);
         Core {
-            registers: registers,
-            bus: bus,
+            registers: op.pushed(at, p.registers),
+            ..p
         }
     }
 }
@@ -362,8 +335,7 @@ impl Core {
         ensures { run_on (operate operation place at) self (memories image.old area.old)
             ≡ ran result (memories image.new area.new) }
     {
-        let shape = operations::shape_of(operation, place);
-        match shape {
+        match operations::shape_of(operation, place) {
             Shape::Nothing(op) => self.quiet(op, at),
             Shape::Load(op) => self.load(op, at, image, area),
             Shape::LoadWord(op) => self.load_word(op, at, image, area),
@@ -384,10 +356,9 @@ impl Core {
     {
         let c = self.registers;
         let bus = self.bus.fetch(image, c.pc);
-        let registers = c.with_pc(plus(c.pc, 1));
         Core {
-            registers: registers,
-            bus: bus,
+            registers: c.with_pc(plus(c.pc, 1)),
+            bus,
         }
     }
 
@@ -396,10 +367,9 @@ impl Core {
             ≡ ran result (memories image.new area.new) }
     {
         let f = self.fetched(image);
-        let place = i.place;
-        let o = f.locate(place, image, area);
-        let operation = i.operation;
-        o.next.operate(operation, place, o.value, image, area)
+        let o = f.locate(i.place, image, area);
+        o.next
+            .operate(i.operation, i.place, o.value, image, area)
     }
 }
 
@@ -409,11 +379,9 @@ impl Core {
     fn end(self, n: u8) -> Chip
         ensures { (result.registers ≡ self.registers) × (result.bus ≡ ended n (moment_of self.bus)) }
     {
-        let registers = self.registers;
-        let bus = self.bus.finish(n);
         Chip {
-            registers: registers,
-            bus: bus,
+            registers: self.registers,
+            bus: self.bus.finish(n),
         }
     }
 }
@@ -423,11 +391,9 @@ impl Chip {
     fn begin(self, ahead: u64) -> Core
         ensures { (result.registers ≡ self.registers) × (moment_of result.bus ≡ begun (listed ahead) self.bus) }
     {
-        let registers = self.registers;
-        let bus = moments::begin(self.bus, ahead);
         Core {
-            registers: registers,
-            bus: bus,
+            registers: self.registers,
+            bus: moments::begin(self.bus, ahead),
         }
     }
 
@@ -435,12 +401,9 @@ impl Chip {
         ensures { timed_on (access_cycles i.operation i.place) i.cycles (execute i) self (memories image.old area.old)
             ≡ left result (memories image.new area.new) }
     {
-        let operation = i.operation;
-        let place = i.place;
-        let p = self
-            .begin(timing::accesses(operation, place))
-            .execute(i, image, area);
-        p.end(i.cycles)
+        self.begin(timing::accesses(i.operation, i.place))
+            .execute(i, image, area)
+            .end(i.cycles)
     }
 
     // Interrupt entry, in so many cycles.
@@ -448,9 +411,8 @@ impl Chip {
         ensures { timed_on (entry_accesses self.registers.waiting) cycles (enter vector) self (memories image.old area.old)
             ≡ left result (memories image.new area.new) }
     {
-        let p = self
-            .begin(timing::entry_accesses(self.registers.waiting))
-            .enter(vector, image, area);
-        p.end(cycles)
+        self.begin(timing::entry_accesses(self.registers.waiting))
+            .enter(vector, image, area)
+            .end(cycles)
     }
 }

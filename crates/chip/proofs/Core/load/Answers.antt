@@ -5,4 +5,4 @@ use Rattle.chip.proofs.Core.load.Goals as goal
 
 pub returns : goal.returns
 unfolding loads
-returns c = after _ _ _ _ (by_read _ _ _ (rw c.address.ensures at c.read-f.ensures)) (ends _ _ _ (sym c.loaded-registers.ensures))
+returns c = after _ _ _ _ (by_read _ _ _ (rw c.address.ensures at c.read-f.ensures)) (ends _ _ _ (sym c.loaded.ensures))

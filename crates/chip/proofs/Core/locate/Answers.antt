@@ -1,19 +1,16 @@
 use mathlib.Core.Path.{refl}
+use mathlib.Core.Logic.{◌⊎◌, inl, inr}
 use Rattle.chip.proofs.ActLaws.{after, ends, by_read}
 use Rattle.chip.specs.Instructions.{operand}
 use Rattle.chip.proofs.Core.locate.Goals as goal
 
 pub returns-in-Inherent : goal.returns-in-Inherent
 unfolding operand
-returns-in-Inherent c = rw c.in-Inherent.is (ends _ _ _ refl)
-
-pub returns-in-AccumulatorA : goal.returns-in-AccumulatorA
-unfolding operand
-returns-in-AccumulatorA c = rw c.in-AccumulatorA.is (ends _ _ _ refl)
-
-pub returns-in-AccumulatorB : goal.returns-in-AccumulatorB
-unfolding operand
-returns-in-AccumulatorB c = rw c.in-AccumulatorB.is (ends _ _ _ refl)
+returns-in-Inherent c = elim c.in-Inherent.is [
+    inl e ↦ rw e (ends _ _ _ refl)
+    | inr (inl e) ↦ rw e (ends _ _ _ refl)
+    | inr (inr e) ↦ rw e (ends _ _ _ refl)
+]
 
 pub returns-in-ImmediateByte : goal.returns-in-ImmediateByte
 unfolding operand

@@ -5,4 +5,4 @@ use Rattle.chip.proofs.Core.push.Goals as goal
 pub returns : goal.returns
 unfolding push
 returns c = after _ _ _ _ (by_write _ _ _ _ c.write-bus.ensures.fact_1 c.write-bus.ensures.fact_2)
-    (ends _ _ _ (rw (c.with_sp-registers.ensures, c.minus.ensures)))
+    (ends _ _ _ (rw (c.with_sp.ensures, c.minus.ensures)))

@@ -10,4 +10,4 @@ returns c = after _ _ _ _
     c.write-bus.ensures.fact_1)
     (rw (c.address.ensures, c.byte.ensures) at
     c.write-bus.ensures.fact_2))
-    (ends _ _ _ (sym c.stored-registers.ensures))
+    (ends _ _ _ (sym c.stored.ensures))

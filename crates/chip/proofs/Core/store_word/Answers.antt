@@ -6,4 +6,4 @@ use Rattle.chip.proofs.Core.store_word.Goals as goal
 pub returns : goal.returns
 unfolding stores_word
 returns c = after _ _ _ _ (rw c.stored.ensures at c.write_word-bus.ensures) (ends _ _ _ (sym
-    c.stored_word-registers.ensures))
+    c.stored_word.ensures))

@@ -5,4 +5,4 @@ use Rattle.chip.proofs.Core.wai.Goals as goal
 
 pub returns : goal.returns
 unfolding wai
-returns c = after _ _ _ _ c.stack_all-p.ensures (ends _ _ _ (sym c.with_waiting-registers.ensures))
+returns c = after _ _ _ _ c.stack_all-p.ensures (ends _ _ _ (sym c.with_waiting.ensures))
