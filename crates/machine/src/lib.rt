@@ -5,7 +5,7 @@ ghost use Rattle.std.specs.Prelude.{◌≡◌, ℕ};
 ghost use Rattle.bus.specs.Access.{memories, read_of};
 ghost use Rattle.bus.specs.Units.{byte_sent};
 ghost use Rattle.machine.specs.Machine.{ranges_of, passed_of, reset_registers, reset_of, cold, power_on_of};
-ghost use Rattle.machine.specs.Interrupts.{pending_of, vector_for, nmi_after, cause_number, behind_of};
+ghost use Rattle.machine.specs.Interrupts.{holds, pending_of, vector_for, nmi_after, cause_number, holds_behind, behind_of};
 ghost use Rattle.machine.specs.Events.{applied_of, on_bus};
 ghost use Rattle.machine.specs.Steps.{moved, entry_cycles, entered_of, look_of, step_of};
 
@@ -56,21 +56,20 @@ pub struct Moved {
 fn reset_registers(pc: u16) -> Registers
     ensures { result ≡ reset_registers pc }
 {
-    let codes = arithmetic::Codes {
-        h: false,
-        i: true,
-        n: false,
-        z: false,
-        v: false,
-        c: false,
-    };
     Registers {
         a: 0,
         b: 0,
         x: 0,
         sp: 0,
-        pc: pc,
-        codes: codes,
+        pc,
+        codes: arithmetic::Codes {
+            h: false,
+            i: true,
+            n: false,
+            z: false,
+            v: false,
+            c: false,
+        },
         waiting: false,
     }
 }
@@ -93,26 +92,23 @@ fn cold_machine(r: u32) -> Machine
         mode: 0,
     };
     let bus = Bus {
-        ports: ports,
+        ports,
         timer: Timer::reset(),
         serial: Serial::reset(),
         rame: true,
         standby: false,
-        r: r,
+        r,
     };
     let registers = reset_registers(0);
-    let chip = Chip {
-        registers: registers,
-        bus: bus,
-    };
     Machine {
-        chip: chip,
+        chip: Chip { registers, bus },
         irq1: true,
         nmi: false,
     }
 }
 
 // An image and R give a machine, or are refused.
+#[tactic(auto, unfolding(crate::specs::Machine::power_on_of))]
 pub fn power_on(image: &[u8], r: u32) -> Result<Machine, PowerRefusal>
     ensures { result ≡ power_on_of image.now r }
 {
@@ -125,44 +121,32 @@ pub fn power_on(image: &[u8], r: u32) -> Result<Machine, PowerRefusal>
     Ok(cold_machine(r).reset(image, &image[..0]))
 }
 
-fn vector_for(cause: Cause) -> Vector
-    ensures { result ≡ vector_for cause }
-{
-    match cause {
-        Cause::Nmi => Vector::Nmi,
-        Cause::Irq1 => Vector::Irq1,
-        Cause::Icf => Vector::Icf,
-        Cause::Ocf => Vector::Ocf,
-        Cause::Tof => Vector::Tof,
-        Cause::Serial => Vector::Serial,
+impl From<Cause> for Vector {
+    ghost from_gives = { λ cause vector. vector ≡ vector_for cause };
+
+    fn from(cause: Cause) -> Vector {
+        match cause {
+            Cause::Nmi => Vector::Nmi,
+            Cause::Irq1 => Vector::Irq1,
+            Cause::Icf => Vector::Icf,
+            Cause::Ocf => Vector::Ocf,
+            Cause::Tof => Vector::Tof,
+            Cause::Serial => Vector::Serial,
+        }
     }
 }
 
 fn nmi_after(cause: Cause, nmi: bool) -> bool
     ensures { result ≡ nmi_after cause nmi }
 {
-    match cause {
-        Cause::Nmi => false,
-        Cause::Irq1 => nmi,
-        Cause::Icf => nmi,
-        Cause::Ocf => nmi,
-        Cause::Tof => nmi,
-        Cause::Serial => nmi,
-    }
+    nmi & !matches!(cause, Cause::Nmi)
 }
 
 // A cause's number in a row of the wake log.
 pub fn cause_number(cause: Cause) -> u8
     ensures { result ≡ cause_number cause }
 {
-    match cause {
-        Cause::Nmi => 0,
-        Cause::Irq1 => 1,
-        Cause::Icf => 2,
-        Cause::Ocf => 3,
-        Cause::Tof => 4,
-        Cause::Serial => 5,
-    }
+    cause as u8
 }
 
 impl Machine {
@@ -175,9 +159,7 @@ impl Machine {
     fn with_bus(mut self, b: Bus) -> Machine
         ensures { result ≡ on_bus self b }
     {
-        let mut p = self.chip;
-        p.bus = b;
-        self.chip = p;
+        self.chip.bus = b;
         self
     }
 
@@ -204,18 +186,15 @@ impl Machine {
         let h = bus::held(image, area, bus.rame, vector);
         let l = bus::held(image, area, bus.rame, bits::plus(vector, 1));
         let registers = reset_registers(bits::pair(h, l));
-        let chip = Chip {
-            registers: registers,
-            bus: bus,
-        };
         Machine {
-            chip: chip,
-            irq1: self.irq1,
+            chip: Chip { registers, bus },
             nmi: false,
+            ..self
         }
     }
 
     // The first cause that holds.
+    #[tactic(auto, unfolding(crate::specs::Interrupts::pending_of))]
     pub fn pending(self) -> Option<Cause>
         ensures { result ≡ pending_of self }
     {
@@ -244,40 +223,53 @@ impl Machine {
         None
     }
 
+    fn holds(self, cause: Cause) -> bool
+        ensures { result ≡ holds cause self }
+    {
+        let open = !self.chip.registers.codes.i;
+        let t = self.chip.bus.timer;
+        match cause {
+            Cause::Nmi => self.nmi,
+            Cause::Irq1 => open & !self.irq1,
+            Cause::Icf => open & (t.icf.set & t.eici),
+            Cause::Ocf => open & (t.ocf.set & t.eoci),
+            Cause::Tof => open & (t.tof.set & t.etoi),
+            Cause::Serial => open & self.chip.bus.serial.requests(),
+        }
+    }
+
+    fn holds_behind(self, cause: Cause, other: Cause) -> bool
+        ensures { result ≡ holds_behind cause other self }
+    {
+        self.holds(other) & (cause_number(cause) != cause_number(other))
+    }
+
     // All other causes that hold, bit k for cause k.
     pub fn behind(self, cause: Cause) -> u8
         ensures { result ≡ behind_of cause self }
     {
-        let own = cause_number(cause);
-        let open = !self.chip.registers.codes.i;
-        let t = self.chip.bus.timer;
         bits::byte_of(
-            self.nmi & (own != 0),
-            open & !self.irq1 & (own != 1),
-            open & (t.icf.set & t.eici) & (own != 2),
-            open & (t.ocf.set & t.eoci) & (own != 3),
-            open & (t.tof.set & t.etoi) & (own != 4),
-            open & self.chip.bus.serial.requests() & (own != 5),
+            self.holds_behind(cause, Cause::Nmi),
+            self.holds_behind(cause, Cause::Irq1),
+            self.holds_behind(cause, Cause::Icf),
+            self.holds_behind(cause, Cause::Ocf),
+            self.holds_behind(cause, Cause::Tof),
+            self.holds_behind(cause, Cause::Serial),
             false,
             false,
         )
     }
 
     // A session's event.
-    pub fn apply(mut self, event: Event, image: &[u8], area: &[u8]) -> Machine
+    #[tactic(auto, unfolding(crate::specs::Events::applied_of))]
+    pub fn apply(self, event: Event, image: &[u8], area: &[u8]) -> Machine
         ensures { result ≡ applied_of event (memories image.now area.now) self }
     {
         match event {
             Event::Port1(v) => self.with_bus(self.chip.bus.port1_pins(v)),
             Event::Port2(v) => self.with_bus(self.chip.bus.port2_pins(v)),
-            Event::Irq1(high) => {
-                self.irq1 = high;
-                self
-            }
-            Event::Nmi => {
-                self.nmi = true;
-                self
-            }
+            Event::Irq1(high) => Machine { irq1: high, ..self },
+            Event::Nmi => Machine { nmi: true, ..self },
             Event::Received(v, stop) => self.with_bus(self.chip.bus.receive(v, stop)),
             Event::Idle => self.with_bus(self.chip.bus.idle()),
             Event::Reset => self.reset(image, area),
@@ -291,21 +283,20 @@ impl Machine {
     }
 
     // An interrupt is entered, and its cycles pass.
+    #[tactic(auto, unfolding(crate::specs::Steps::entered_of))]
     pub fn enter(self, cause: Cause, image: &mut [u8], area: &mut [u8]) -> Moved
         ensures { moved result (memories image.new area.new)
             ≡ entered_of cause (memories image.old area.old) self }
     {
         let k = self.entry_cycles();
-        let chip = self
-            .chip
-            .enter(tables::address_of(vector_for(cause)), k, image, area);
-        let machine = Machine {
-            chip: chip,
-            irq1: self.irq1,
-            nmi: nmi_after(cause, self.nmi),
-        };
+        let vector = tables::address_of(Vector::from(cause));
+        let chip = self.chip.enter(vector, k, image, area);
         Moved {
-            machine: machine,
+            machine: Machine {
+                chip,
+                nmi: nmi_after(cause, self.nmi),
+                ..self
+            },
             cycles: Cycles(k as u32),
         }
     }
@@ -315,8 +306,9 @@ impl Machine {
         ensures { result ≡ (read_of (memories image.now area.now) self.chip.registers.pc self.chip.bus).value }
     {
         // Nothing is listed, so no cycle passes.
-        let f = moments::begin(self.chip.bus, 0).read(image, area, self.chip.registers.pc);
-        f.value
+        moments::begin(self.chip.bus, 0)
+            .read(image, area, self.chip.registers.pc)
+            .value
     }
 
     // What stands at PC, with no effect on the machine.
@@ -328,17 +320,13 @@ impl Machine {
     }
 
     // An instruction, and its cycles.
+    #[tactic(auto, unfolding(crate::specs::Steps::step_of))]
     pub fn step(self, i: Instruction, image: &mut [u8], area: &mut [u8]) -> Moved
         ensures { moved result (memories image.new area.new) ≡ step_of i (memories image.old area.old) self }
     {
         let chip = self.chip.execute(i, image, area);
-        let machine = Machine {
-            chip: chip,
-            irq1: self.irq1,
-            nmi: self.nmi,
-        };
         Moved {
-            machine: machine,
+            machine: Machine { chip, ..self },
             cycles: Cycles(i.cycles as u32),
         }
     }

@@ -9,5 +9,5 @@ use Rattle.machine.proofs.Machine.opcode.Goals as goal
 pub returns : goal.returns
 unfolding listed to_next read_at
 returns c = let a = c.args in
-    ap (λ (r : Read ℕ Moment). r.value) c.read-f.ensures
+    ap (λ (r : Read ℕ Moment). r.value) c.read.ensures
     ∙ ap (λ (o : Moment). (read_at (memories a.image.now a.area.now) a.self.chip.registers.pc o).value) c.begin.ensures
