@@ -1,5 +1,7 @@
 -- The sequence of a night's operations: the next one, from the last one and its answer; and the events of the model that an operation is.
-use Rattle.std.specs.Prelude.{Bool, true, false, List, [], ◌∷◌, ◌++◌, ℕ, zero, suc, ◌+◌, ltb}
+use Rattle.std.specs.Prelude.{Bool, true, false, List, [], ◌∷◌, ◌++◌, ℕ, zero, suc, ◌+◌, ltb, cond, Option, Some, None}
+use Rattle.night_steps.specs.declared.Refusal.{Refusal}
+use Rattle.night_steps.specs.declared.Refusal.TheVariants.{Unread, Failed, Taken}
 use Rattle.night_steps.specs.declared.Op.{Op}
 use Rattle.night_steps.specs.declared.Op.TheVariants.{Find, ReadNames, Take, Blocked, FindAgain, Settle, GiveBack, Run, Make, SyncNight, Unlink}
 use Rattle.night_steps.specs.declared.Op.TheVariants.{RemoveNight}
@@ -9,9 +11,19 @@ use Rattle.night_folders.specs.Folders.{fsync_last}
 use Rattle.night_folders.specs.Folders.{fail, unlink, rmdir_night, kill}
 use Rattle.night_folders.specs.Effects.{one, none, all}
 
+-- the number that a call tells
+abbrev pub refusal_number : Refusal → ℕ
+refusal_number Unread = 33
+refusal_number Failed = 34
+refusal_number Taken = 35
+
 abbrev pub choice : Bool → Op → Op → Op
 choice true a b = a
 choice false a b = b
+
+-- the next of n files, where there is one
+abbrev pub following : ℕ → ℕ → Option ℕ
+following n i = cond (ltb (i + 1) n) (Some (i + 1)) None
 
 -- the same with the next of n files, or what follows the last
 abbrev pub after_make : ℕ → ℕ → Op
@@ -27,23 +39,23 @@ after_unlink n i = choice (ltb (i + 1) n) (Unlink (i + 1)) RemoveNight
 -- from it on to a stop: a rename that reports failure may have been done
 abbrev pub next_op : ℕ → Op → Bool → Bool → Op
 next_op n Find ok own = choice ok Take ReadNames
-next_op n ReadNames ok own = choice ok SyncCommit (Stopped 33)
+next_op n ReadNames ok own = choice ok SyncCommit (Stopped Unread)
 next_op n Take ok own = choice ok FindAgain Blocked
-next_op n Blocked ok own = choice ok (Refused 35) (Refused 34)
-next_op n FindAgain ok own = choice ok Settle (GiveBack 35)
-next_op n Settle ok own = choice ok Run (GiveBack 34)
+next_op n Blocked ok own = choice ok (Refused Taken) (Refused Failed)
+next_op n FindAgain ok own = choice ok Settle (GiveBack Taken)
+next_op n Settle ok own = choice ok Run (GiveBack Failed)
 next_op n (GiveBack k) ok own = Refused k
 next_op n Run ok own = choice ok (Make 0) RemoveNight
 next_op n (Make i) ok own = choice ok (after_make n i) (Unlink 0)
 next_op n SyncNight ok own = choice ok Commit (Unlink 0)
 next_op n (Unlink i) ok own = after_unlink n i
-next_op n RemoveNight ok own = Refused 34
-next_op n Commit ok own = choice ok SyncCommit (Stopped 34)
-next_op n SyncCommit ok own = choice ok (Put 0) (Stopped 34)
-next_op n (Put i) ok own = choice ok (after_put n i) (Stopped 34)
-next_op n SyncPlaces ok own = choice ok RemoveDone (Stopped 34)
-next_op n RemoveDone ok own = choice ok SyncLast (Stopped 34)
-next_op n SyncLast ok own = choice ok (choice own Placed Take) (Stopped 34)
+next_op n RemoveNight ok own = Refused Failed
+next_op n Commit ok own = choice ok SyncCommit (Stopped Failed)
+next_op n SyncCommit ok own = choice ok (Put 0) (Stopped Failed)
+next_op n (Put i) ok own = choice ok (after_put n i) (Stopped Failed)
+next_op n SyncPlaces ok own = choice ok RemoveDone (Stopped Failed)
+next_op n RemoveDone ok own = choice ok SyncLast (Stopped Failed)
+next_op n SyncLast ok own = choice ok (choice own Placed Take) (Stopped Failed)
 next_op n Placed ok own = Placed
 next_op n (Refused k) ok own = Refused k
 next_op n (Stopped k) ok own = Stopped k

@@ -3,7 +3,28 @@
 #![tactic(auto)]
 
 ghost use Rattle.std.specs.Prelude.{◌≡◌};
-ghost use Rattle.night_steps.specs.Steps.{choice, after_make, after_put, after_unlink, next_op, waits_of, is_make};
+ghost use Rattle.night_steps.specs.Steps.{refusal_number, choice, following, next_op, waits_of, is_make};
+
+// Why a call ends without its night, or stops for now.
+#[derive(Clone, Copy)]
+pub enum Refusal {
+    Unread, // what it needs to go on cannot be read
+    Failed, // an operation on its files failed
+    Taken, // another call has the night
+}
+
+impl Refusal {
+    // The number that a call tells.
+    pub fn number(self) -> u8
+        ensures { result ≡ refusal_number self }
+    {
+        match self {
+            Refusal::Unread => 33,
+            Refusal::Failed => 34,
+            Refusal::Taken => 35,
+        }
+    }
+}
 
 // The files of a night by number: 0 image, 1 state, 2 rest, 3 output, 4 names, and from 5 on the further ones. The letters are the paragraphs of docs/NIGHT.md.
 #[derive(Clone, Copy)]
@@ -14,7 +35,7 @@ pub enum Op {
     Blocked, // (b) well: STATE.night is taken; not: it cannot be made
     FindAgain, // (c) as Find
     Settle, // (c) bring STATE's folder to the device
-    GiveBack(u8), // remove STATE.night, in which nothing was made; refused with this number
+    GiveBack(Refusal), // remove STATE.night, in which nothing was made; refused so
     Run, // read the files and run
     Make(u8), // (d) make the file in STATE.night, write it, bring it to the device, close it
     SyncNight, // (d) bring STATE.night to the device
@@ -27,44 +48,24 @@ pub enum Op {
     RemoveDone, // (h) remove STATE.done; that it is gone is well
     SyncLast, // (h) bring STATE's folder to the device
     Placed, // the end: all new
-    Refused(u8), // the end: nothing of this call's own night is left, but for a clean-up that failed
-    Stopped(u8), // the end for now: the next call goes on from STATE.done where it stands; or the commit failed
+    Refused(Refusal), // the end: nothing of this call's own night is left, but for a clean-up that failed
+    Stopped(Refusal), // the end for now: the next call goes on from STATE.done where it stands; or the commit failed
 }
 
 fn choose(ok: bool, yes: Op, no: Op) -> Op
     ensures { result ≡ choice ok yes no }
 {
-    if ok {
-        return yes;
-    }
-    no
+    if ok { yes } else { no }
 }
 
-fn after_make(files: u8, i: u8) -> Op
-    ensures { result ≡ after_make files i }
+// The next of so many files, where there is one.
+fn following(files: u8, i: u8) -> Option<u8>
+    ensures { result ≡ following files i }
 {
     if (i as u16) + 1 < (files as u16) {
-        return Op::Make(i + 1);
+        return Some(i + 1);
     }
-    Op::SyncNight
-}
-
-fn after_put(files: u8, i: u8) -> Op
-    ensures { result ≡ after_put files i }
-{
-    if (i as u16) + 1 < (files as u16) {
-        return Op::Put(i + 1);
-    }
-    Op::SyncPlaces
-}
-
-fn after_unlink(files: u8, i: u8) -> Op
-    ensures { result ≡ after_unlink files i }
-{
-    if (i as u16) + 1 < (files as u16) {
-        return Op::Unlink(i + 1);
-    }
-    Op::RemoveNight
+    None
 }
 
 // The operation after `op`, which went well or not, of a night with so many files; `own` says whether this call has begun its own night, or puts
@@ -74,26 +75,40 @@ pub fn next(files: u8, op: Op, ok: bool, own: bool) -> Op
 {
     match op {
         Op::Find => choose(ok, Op::Take, Op::ReadNames),
-        Op::ReadNames => choose(ok, Op::SyncCommit, Op::Stopped(33)),
+        Op::ReadNames => choose(ok, Op::SyncCommit, Op::Stopped(Refusal::Unread)),
         Op::Take => choose(ok, Op::FindAgain, Op::Blocked),
-        Op::Blocked => choose(ok, Op::Refused(35), Op::Refused(34)),
-        Op::FindAgain => choose(ok, Op::Settle, Op::GiveBack(35)),
-        Op::Settle => choose(ok, Op::Run, Op::GiveBack(34)),
+        Op::Blocked => choose(
+            ok,
+            Op::Refused(Refusal::Taken),
+            Op::Refused(Refusal::Failed),
+        ),
+        Op::FindAgain => choose(ok, Op::Settle, Op::GiveBack(Refusal::Taken)),
+        Op::Settle => choose(ok, Op::Run, Op::GiveBack(Refusal::Failed)),
         Op::GiveBack(k) => Op::Refused(k),
         Op::Run => choose(ok, Op::Make(0), Op::RemoveNight),
-        Op::Make(i) => choose(ok, after_make(files, i), Op::Unlink(0)),
+        Op::Make(i) => choose(
+            ok,
+            following(files, i).map_or(Op::SyncNight, Op::Make),
+            Op::Unlink(0),
+        ),
         Op::SyncNight => choose(ok, Op::Commit, Op::Unlink(0)),
-        Op::Unlink(i) => after_unlink(files, i),
-        Op::RemoveNight => Op::Refused(34),
-        Op::Commit => choose(ok, Op::SyncCommit, Op::Stopped(34)),
-        Op::SyncCommit => choose(ok, Op::Put(0), Op::Stopped(34)),
-        Op::Put(i) => choose(ok, after_put(files, i), Op::Stopped(34)),
-        Op::SyncPlaces => choose(ok, Op::RemoveDone, Op::Stopped(34)),
-        Op::RemoveDone => choose(ok, Op::SyncLast, Op::Stopped(34)),
-        Op::SyncLast => choose(ok, choose(own, Op::Placed, Op::Take), Op::Stopped(34)),
-        Op::Placed => Op::Placed,
-        Op::Refused(k) => Op::Refused(k),
-        Op::Stopped(k) => Op::Stopped(k),
+        Op::Unlink(i) => following(files, i).map_or(Op::RemoveNight, Op::Unlink),
+        Op::RemoveNight => Op::Refused(Refusal::Failed),
+        Op::Commit => choose(ok, Op::SyncCommit, Op::Stopped(Refusal::Failed)),
+        Op::SyncCommit => choose(ok, Op::Put(0), Op::Stopped(Refusal::Failed)),
+        Op::Put(i) => choose(
+            ok,
+            following(files, i).map_or(Op::SyncPlaces, Op::Put),
+            Op::Stopped(Refusal::Failed),
+        ),
+        Op::SyncPlaces => choose(ok, Op::RemoveDone, Op::Stopped(Refusal::Failed)),
+        Op::RemoveDone => choose(ok, Op::SyncLast, Op::Stopped(Refusal::Failed)),
+        Op::SyncLast => choose(
+            ok,
+            choose(own, Op::Placed, Op::Take),
+            Op::Stopped(Refusal::Failed),
+        ),
+        Op::Placed | Op::Refused(_) | Op::Stopped(_) => op,
     }
 }
 
@@ -101,56 +116,15 @@ pub fn next(files: u8, op: Op, ok: bool, own: bool) -> Op
 pub fn waits(op: Op) -> bool
     ensures { result ≡ waits_of op }
 {
-    match op {
-        Op::Find => false,
-        Op::ReadNames => true,
-        Op::Take => false,
-        Op::Blocked => false,
-        Op::FindAgain => false,
-        Op::Settle => false,
-        Op::GiveBack(k) => false,
-        Op::Run => true,
-        Op::Make(i) => true,
-        Op::SyncNight => false,
-        Op::Unlink(i) => false,
-        Op::RemoveNight => false,
-        Op::Commit => false,
-        Op::SyncCommit => false,
-        Op::Put(i) => false,
-        Op::SyncPlaces => false,
-        Op::RemoveDone => false,
-        Op::SyncLast => false,
-        Op::Placed => true,
-        Op::Refused(k) => true,
-        Op::Stopped(k) => true,
-    }
+    matches!(
+        op,
+        Op::ReadNames | Op::Run | Op::Make(_) | Op::Placed | Op::Refused(_) | Op::Stopped(_)
+    )
 }
 
 // Whether a file is to be made.
 pub fn is_make(op: Op) -> bool
     ensures { result ≡ is_make op }
 {
-    match op {
-        Op::Find => false,
-        Op::ReadNames => false,
-        Op::Take => false,
-        Op::Blocked => false,
-        Op::FindAgain => false,
-        Op::Settle => false,
-        Op::GiveBack(k) => false,
-        Op::Run => false,
-        Op::Make(i) => true,
-        Op::SyncNight => false,
-        Op::Unlink(i) => false,
-        Op::RemoveNight => false,
-        Op::Commit => false,
-        Op::SyncCommit => false,
-        Op::Put(i) => false,
-        Op::SyncPlaces => false,
-        Op::RemoveDone => false,
-        Op::SyncLast => false,
-        Op::Placed => false,
-        Op::Refused(k) => false,
-        Op::Stopped(k) => false,
-    }
+    matches!(op, Op::Make(_))
 }
