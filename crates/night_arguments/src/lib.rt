@@ -131,3 +131,12 @@ pub fn joined(name: &[u8], ending: &[u8], buffer: &mut [u8]) -> usize
     numbers::copy(ending, &mut buffer[name.len()..]);
     name.len() + ending.len()
 }
+
+// What a function makes of a name with an ending: of no bytes where the two are longer than a path may be.
+pub fn with_joined<T, F: FnOnce(&[u8]) -> T>(name: &[u8], ending: &[u8], act: F) -> T
+    requires { F.IsAlwaysCallable act }
+{
+    let mut path = io::buffer();
+    let n = joined(name, ending, &mut path);
+    act(&path[..n])
+}

@@ -1,7 +1,9 @@
 // What carries out a night's operations on its files: names and system calls. The order is night_steps' alone (docs/NIGHT.md).
 #![tactic(auto)]
 
-ghost use Rattle.std.specs.Prelude.{◌≤◌, true, [], ◌∷◌, ◌≡◌, get_or};
+ghost use Rattle.std.specs.Prelude.{true, [], ◌∷◌, ◌≡◌};
+ghost use Rattle.std.specs.List.{slice_get};
+ghost use Rattle.std.specs.Option.{option_copied};
 ghost use Rattle.io.specs.Counts.{IsPrefixLen};
 ghost use Rattle.night_steps.specs.Steps.{waits_of};
 
@@ -10,10 +12,26 @@ use night_steps::Op;
 use std::fs::Files;
 use std::io::{ErrorKind, Read, Result};
 
+// A night by its names: STATE's, and those that it commits along.
+#[derive(Clone, Copy)]
+pub struct Places<'a> {
+    pub state: &'a [u8],
+    pub names: &'a [u8],
+}
+
+// The bytes of a night's files but for those of its names. The area and the log are files of it where its names have theirs.
+#[derive(Clone, Copy)]
+pub struct Contents<'a> {
+    pub image: &'a [u8],
+    pub machine: &'a [u8],
+    pub rest: &'a [u8],
+    pub output: &'a [u8],
+    pub area: &'a [u8],
+    pub log: &'a [u8],
+}
+
 fn open_with<R: Files>(rt: &R, name: &[u8], ending: &[u8]) -> Result<R::File> {
-    let mut path = io::buffer();
-    let n = night_arguments::joined(name, ending, &mut path);
-    host::open(rt, &path[..n])
+    night_arguments::with_joined(name, ending, |path| host::open(rt, path))
 }
 
 // A name with this ending is there, or cannot be told not to be.
@@ -24,19 +42,28 @@ fn stands(rt: &impl Files, name: &[u8], ending: &[u8]) -> bool {
     }
 }
 
-// Where the file stands in STATE.night/ or STATE.done/.
-fn work_of(i: u8, folder: &[u8], state: &[u8], names: &[u8], buffer: &mut [u8]) -> usize
-    ensures { IsPrefixLen result buffer.new }
-{
-    let mut place = io::buffer();
-    let n = night_names::place_of(i, state, names, &mut place);
-    night_names::work_place(state, folder, &place[..n], buffer)
+impl<'a> Places<'a> {
+    // The place of a file, by its number (`Op` of night_steps).
+    fn place_of(self, i: u8, buffer: &mut [u8]) -> usize
+        ensures { IsPrefixLen result buffer.new }
+    {
+        night_names::place_of(i, self.state, self.names, buffer)
+    }
+
+    // Where the file stands in STATE.night/ or STATE.done/.
+    fn work_of(self, i: u8, folder: &[u8], buffer: &mut [u8]) -> usize
+        ensures { IsPrefixLen result buffer.new }
+    {
+        let mut place = io::buffer();
+        let n = self.place_of(i, &mut place);
+        night_names::work_place(self.state, folder, &place[..n], buffer)
+    }
 }
 
 // A file's place is a folder, or cannot be told not to be: a path through a file is answered with NotADirectory.
-fn is_folder(rt: &impl Files, i: u8, state: &[u8], names: &[u8]) -> bool {
+fn is_folder(rt: &impl Files, i: u8, places: Places) -> bool {
     let mut place = io::buffer();
-    let n = night_names::place_of(i, state, names, &mut place);
+    let n = places.place_of(i, &mut place);
     match open_with(rt, &place[..n], b"/.") {
         Ok(_) => true,
         Err(error) => !host::is_absent(&error) & (error.kind() != ErrorKind::NotADirectory),
@@ -44,24 +71,13 @@ fn is_folder(rt: &impl Files, i: u8, state: &[u8], names: &[u8]) -> bool {
 }
 
 // Whether one of the places of a night's files is a folder.
-pub fn has_folder(rt: &impl Files, state: &[u8], names: &[u8]) -> bool {
-    let files = night_names::files(names);
-    let mut i = 0u8;
-    while i < files {
-        if is_folder(rt, i, state, names) {
-            return true;
-        }
-        i = i + 1;
-    }
-    false
+pub fn has_folder(rt: &impl Files, places: Places) -> bool {
+    (0..night_names::files(places.names)).any(|i| is_folder(rt, i, places))
 }
 
 // What a folder holds has reached the device.
 fn sync_folder(rt: &impl Files, name: &[u8], ending: &[u8]) -> bool {
-    match open_with(rt, name, ending) {
-        Ok(folder) => host::sync(folder),
-        Err(_) => false,
-    }
+    open_with(rt, name, ending).is_ok_and(|folder| host::sync(folder))
 }
 
 // The folder in which STATE lies, and the places with it.
@@ -73,23 +89,20 @@ fn sync_home(rt: &impl Files, state: &[u8]) -> bool {
     sync_folder(rt, &state[..at], b"")
 }
 
-// STATE.night is made. Where it cannot be, `taken` says whether it is there already.
-fn take_night(rt: &impl Files, state: &[u8], taken: &mut bool) -> bool {
-    let mut path = io::buffer();
-    let n = night_arguments::joined(state, b".night", &mut path);
-    match host::make_folder(rt, &path[..n]) {
-        Ok(()) => true,
-        Err(error) => {
-            *taken = error.kind() == ErrorKind::AlreadyExists;
-            false
-        }
+fn take_night(rt: &impl Files, state: &[u8]) -> Result<()> {
+    night_arguments::with_joined(state, b".night", |path| host::make_folder(rt, path))
+}
+
+// What was to be made is there already.
+fn is_taken(made: &Result<()>) -> bool {
+    match made {
+        Ok(()) => false,
+        Err(error) => error.kind() == ErrorKind::AlreadyExists,
     }
 }
 
 fn remove_folder(rt: &impl Files, state: &[u8], ending: &[u8]) -> Result<()> {
-    let mut path = io::buffer();
-    let n = night_arguments::joined(state, ending, &mut path);
-    host::remove_folder(rt, &path[..n])
+    night_arguments::with_joined(state, ending, |path| host::remove_folder(rt, path))
 }
 
 // What was to be removed or renamed is so, or is gone.
@@ -101,23 +114,23 @@ fn is_gone(done: Result<()>) -> bool {
 }
 
 fn commit(rt: &impl Files, state: &[u8]) -> bool {
-    let mut from = io::buffer();
-    let n = night_arguments::joined(state, b".night", &mut from);
-    let mut to = io::buffer();
-    let m = night_arguments::joined(state, b".done", &mut to);
-    host::rename(rt, &from[..n], &to[..m]).is_ok()
+    let mut done = io::buffer();
+    let n = night_arguments::joined(state, b".done", &mut done);
+    night_arguments::with_joined(state, b".night", |night| {
+        host::rename(rt, night, &done[..n]).is_ok()
+    })
 }
 
-fn unlink_file(rt: &impl Files, i: u8, state: &[u8], names: &[u8]) -> bool {
+fn unlink_file(rt: &impl Files, i: u8, places: Places) -> bool {
     let mut path = io::buffer();
-    let n = work_of(i, b".night/", state, names, &mut path);
+    let n = places.work_of(i, b".night/", &mut path);
     host::remove_file(rt, &path[..n]).is_ok()
 }
 
 // A new file holds these bytes, and so on the device.
-fn make(rt: &impl Files, i: u8, state: &[u8], names: &[u8], bytes: &[u8]) -> bool {
+fn make(rt: &impl Files, i: u8, places: Places, bytes: &[u8]) -> bool {
     let mut path = io::buffer();
-    let n = work_of(i, b".night/", state, names, &mut path);
+    let n = places.work_of(i, b".night/", &mut path);
     let Ok(mut file) = host::create(rt, &path[..n]) else {
         return false;
     };
@@ -126,45 +139,45 @@ fn make(rt: &impl Files, i: u8, state: &[u8], names: &[u8], bytes: &[u8]) -> boo
 }
 
 // A file takes its place, or is gone: it is there already.
-fn put_file(rt: &impl Files, i: u8, state: &[u8], names: &[u8]) -> bool {
+fn put_file(rt: &impl Files, i: u8, places: Places) -> bool {
     let mut path = io::buffer();
-    let n = work_of(i, b".done/", state, names, &mut path);
+    let n = places.work_of(i, b".done/", &mut path);
     let mut place = io::buffer();
-    let m = night_names::place_of(i, state, names, &mut place);
+    let m = places.place_of(i, &mut place);
     is_gone(host::rename(rt, &path[..n], &place[..m]))
 }
 
 // One operation that does not wait, and whether it went well. `taken` goes from Take to Blocked.
-fn carry_out(rt: &impl Files, op: Op, state: &[u8], names: &[u8], taken: &mut bool) -> bool {
+fn carry_out(rt: &impl Files, op: Op, places: Places, taken: &mut bool) -> bool {
+    let state = places.state;
     match op {
-        Op::Find => !stands(rt, state, b".done"),
-        Op::Take => take_night(rt, state, taken),
+        Op::Find | Op::FindAgain => !stands(rt, state, b".done"),
+        Op::Take => {
+            let made = take_night(rt, state);
+            *taken = is_taken(&made);
+            made.is_ok()
+        }
         Op::Blocked => *taken,
-        Op::FindAgain => !stands(rt, state, b".done"),
-        Op::Settle => sync_home(rt, state),
-        Op::GiveBack(k) => remove_folder(rt, state, b".night").is_ok(),
+        Op::Settle | Op::SyncCommit | Op::SyncPlaces | Op::SyncLast => sync_home(rt, state),
+        Op::GiveBack(_) | Op::RemoveNight => remove_folder(rt, state, b".night").is_ok(),
         Op::SyncNight => sync_folder(rt, state, b".night"),
-        Op::Unlink(i) => unlink_file(rt, i, state, names),
-        Op::RemoveNight => remove_folder(rt, state, b".night").is_ok(),
+        Op::Unlink(i) => unlink_file(rt, i, places),
         Op::Commit => commit(rt, state),
-        Op::SyncCommit => sync_home(rt, state),
-        Op::Put(i) => put_file(rt, i, state, names),
-        Op::SyncPlaces => sync_home(rt, state),
+        Op::Put(i) => put_file(rt, i, places),
         Op::RemoveDone => is_gone(remove_folder(rt, state, b".done")),
-        Op::SyncLast => sync_home(rt, state),
         _ => false,
     }
 }
 
 // From an operation to the first that waits. `own`: the files are this call's own night.
-pub fn carry(rt: &impl Files, first: Op, own: bool, state: &[u8], names: &[u8]) -> Op
+pub fn carry(rt: &impl Files, first: Op, own: bool, places: Places) -> Op
     ensures { waits_of result ≡ true }
 {
-    let files = night_names::files(names);
+    let files = night_names::files(places.names);
     let mut op = first;
     let mut taken = false;
     while !night_steps::waits(op) {
-        let ok = carry_out(rt, op, state, names, &mut taken);
+        let ok = carry_out(rt, op, places, &mut taken);
         op = night_steps::next(files, op, ok, own);
     }
     op
@@ -196,8 +209,9 @@ fn read_placed(rt: &impl Files, state: &[u8], buffer: &mut [u8]) -> usize
 fn read_names(rt: &impl Files, state: &[u8], buffer: &mut [u8]) -> usize
     ensures { IsPrefixLen result buffer.new }
 {
+    let unnamed = Places { state, names: b"" };
     let mut path = io::buffer();
-    let n = work_of(4, b".done/", state, b"", &mut path);
+    let n = unnamed.work_of(4, b".done/", &mut path);
     match host::open(rt, &path[..n]) {
         Ok(file) => read_whole(file, buffer),
         Err(error) => {
@@ -209,106 +223,59 @@ fn read_names(rt: &impl Files, state: &[u8], buffer: &mut [u8]) -> usize
     }
 }
 
-fn waits_for_names(op: Op) -> bool {
-    match op {
-        Op::ReadNames => true,
-        _ => false,
-    }
-}
-
 // The start of a call: another night's files are put in place where STATE.done stands, and STATE.night is taken. What follows is the run, or an end.
 pub fn prepare(rt: &impl Files, state: &[u8]) -> Op
     ensures { waits_of result ≡ true }
 {
-    let op = carry(rt, Op::Find, false, state, b"");
-    if !waits_for_names(op) {
+    let op = carry(rt, Op::Find, false, Places { state, names: b"" });
+    if !matches!(op, Op::ReadNames) {
         return op;
     }
-    let mut names = io::buffer();
-    let n = read_names(rt, state, &mut names);
-    let known = night_names::are_recorded(&names[..n]);
-    let files = night_names::files(&names[..n]);
-    carry(
-        rt,
-        night_steps::next(files, op, known, false),
-        false,
-        state,
-        &names[..n],
-    )
+    let mut buffer = io::buffer();
+    let n = read_names(rt, state, &mut buffer);
+    let names = &buffer[..n];
+    let known = night_names::are_recorded(names);
+    let next = night_steps::next(night_names::files(names), op, known, false);
+    carry(rt, next, false, Places { state, names })
 }
 
-// The bytes of a night's file, by its number (`Op` of night_steps).
-fn bytes_of<'a>(
-    i: u8,
-    names: &'a [u8],
-    image: &'a [u8],
-    machine: &'a [u8],
-    rest: &'a [u8],
-    output: &'a [u8],
-    area: &'a [u8],
-    log: &'a [u8],
-) -> &'a [u8]
-    requires { i ≤ 6 }
-    ensures { result.now ≡ get_or (image.now ∷ machine.now ∷ rest.now ∷ output.now ∷ names.now
-        ∷ area.now ∷ log.now ∷ []) i [] }
-{
-    match i {
-        0 => image,
-        1 => machine,
-        2 => rest,
-        3 => output,
-        4 => names,
-        5 => area,
-        _ => log,
+impl<'a> Contents<'a> {
+    // The bytes of a file, by its number (`Op` of night_steps); there is none with a number above 6.
+    fn bytes_of(self, names: &'a [u8], i: u8) -> Option<&'a [u8]>
+        ensures { option_copied result
+            ≡ slice_get (self.entry.image.now ∷ self.entry.machine.now ∷ self.entry.rest.now ∷ self.entry.output.now ∷ names.now
+            ∷ self.entry.area.now ∷ self.entry.log.now ∷ []) i }
+    {
+        match i {
+            0 => Some(self.image),
+            1 => Some(self.machine),
+            2 => Some(self.rest),
+            3 => Some(self.output),
+            4 => Some(names),
+            5 => Some(self.area),
+            6 => Some(self.log),
+            _ => None,
+        }
     }
 }
 
-// A file is made in STATE.night; there is none with a higher number.
-fn make_file<'a>(
-    rt: &impl Files,
-    op: Op,
-    state: &[u8],
-    names: &'a [u8],
-    image: &'a [u8],
-    machine: &'a [u8],
-    rest: &'a [u8],
-    output: &'a [u8],
-    area: &'a [u8],
-    log: &'a [u8],
-) -> bool {
-    let Op::Make(i) = op else {
-        return false;
-    };
-    if 6 < i {
-        return false;
+// A file is made in STATE.night.
+fn make_file(rt: &impl Files, i: u8, places: Places, contents: Contents) -> bool {
+    match contents.bytes_of(places.names, i) {
+        Some(bytes) => make(rt, i, places, bytes),
+        None => false,
     }
-    let bytes = bytes_of(i, names, image, machine, rest, output, area, log);
-    make(rt, i, state, names, bytes)
 }
 
-// The end of a call whose night has run: its files are made, committed and put in place; or STATE.night is removed. The area and the log are files
-// of the night where `names` has their names.
-pub fn finish<'a>(
-    rt: &impl Files,
-    ran: bool,
-    state: &[u8],
-    names: &'a [u8],
-    image: &'a [u8],
-    machine: &'a [u8],
-    rest: &'a [u8],
-    output: &'a [u8],
-    area: &'a [u8],
-    log: &'a [u8],
-) -> Op
+// The end of a call whose night has run: its files are made, committed and put in place; or STATE.night is removed.
+pub fn finish(rt: &impl Files, ran: bool, places: Places, contents: Contents) -> Op
     ensures { waits_of result ≡ true }
 {
-    let files = night_names::files(names);
+    let files = night_names::files(places.names);
     let mut op = night_steps::next(files, Op::Run, ran, true);
-    while night_steps::is_make(op) {
-        let ok = make_file(
-            rt, op, state, names, image, machine, rest, output, area, log,
-        );
+    while let Op::Make(i) = op {
+        let ok = make_file(rt, i, places, contents);
         op = night_steps::next(files, op, ok, true);
     }
-    carry(rt, op, true, state, names)
+    carry(rt, op, true, places)
 }

@@ -4,29 +4,24 @@
 // word of their own. Last the names that a call may have.
 #![tactic(auto)]
 
-use night_steps::Op;
+use night_commit::{Contents, Places};
+use night_steps::{Op, Refusal};
 use printing::Line;
 use std::fs::Files;
 use std::io::Result;
 
 // A folder in a case's; git keeps no empty ones.
 fn make_in(rt: &impl Files, case: &[u8], name: &[u8]) {
-    let mut path = io::buffer();
-    let n = night_arguments::joined(case, name, &mut path);
-    let _ = host::make_folder(rt, &path[..n]);
+    let _ = night_arguments::with_joined(case, name, |path| host::make_folder(rt, path));
 }
 
 // An empty file in a case's folder.
 fn create_in(rt: &impl Files, case: &[u8], name: &[u8]) {
-    let mut path = io::buffer();
-    let n = night_arguments::joined(case, name, &mut path);
-    let _ = host::create(rt, &path[..n]);
+    let _ = night_arguments::with_joined(case, name, |path| host::create(rt, path));
 }
 
 fn open_in<R: Files>(rt: &R, case: &[u8], name: &[u8]) -> Result<R::File> {
-    let mut path = io::buffer();
-    let n = night_arguments::joined(case, name, &mut path);
-    host::open(rt, &path[..n])
+    night_arguments::with_joined(case, name, |path| host::open(rt, path))
 }
 
 // What a file of a case holds, - where it is absent.
@@ -48,16 +43,17 @@ fn show_folder(rt: &(impl Files + Print), case: &[u8], name: &[u8], word: &[u8])
     Line::empty().text(word).print(rt);
 }
 
-fn show_number(rt: &impl Print, word: &[u8], k: u8) {
-    Line::empty().text(word).decimal(k as u64).print(rt);
+fn show_refusal(rt: &impl Print, word: &[u8], refusal: Refusal) {
+    let number = refusal.number();
+    Line::empty().text(word).decimal(number as u64).print(rt);
 }
 
 fn show_end(rt: &impl Print, op: Op) {
     match op {
         Op::Run => Line::empty().text(b": to run:").print(rt),
         Op::Placed => Line::empty().text(b": placed:").print(rt),
-        Op::Refused(k) => show_number(rt, b": refused ", k),
-        Op::Stopped(k) => show_number(rt, b": stopped ", k),
+        Op::Refused(k) => show_refusal(rt, b": refused ", k),
+        Op::Stopped(k) => show_refusal(rt, b": stopped ", k),
         _ => Line::empty().text(b": no end").print(rt),
     }
 }
@@ -91,18 +87,19 @@ fn call(rt: &(impl Files + Print), case: &[u8]) {
 fn end_with(rt: &(impl Files + Print), case: &[u8], ran: bool, names: &[u8]) {
     let mut state = io::buffer();
     let n = night_arguments::joined(case, b"/state", &mut state);
-    let end = night_commit::finish(
-        rt,
-        ran,
-        &state[..n],
+    let contents = Contents {
+        image: b"image",
+        machine: b"machine",
+        rest: b"rest",
+        output: b"output",
+        area: b"area",
+        log: b"log",
+    };
+    let places = Places {
+        state: &state[..n],
         names,
-        b"image",
-        b"machine",
-        b"rest",
-        b"output",
-        b"area",
-        b"log",
-    );
+    };
+    let end = night_commit::finish(rt, ran, places, contents);
     show_case(rt, case, end);
 }
 
@@ -124,7 +121,11 @@ fn recoveries(rt: &(impl Files + Print)) {
 
 // A call found STATE.done of another night, with other names, and puts files in place only now.
 fn stale(rt: &(impl Files + Print)) {
-    let op = night_commit::carry(rt, Op::SyncCommit, false, b"stale/state", b"image/output");
+    let places = Places {
+        state: b"stale/state",
+        names: b"image/output",
+    };
+    let op = night_commit::carry(rt, Op::SyncCommit, false, places);
     show_case(rt, b"stale", op);
     call(rt, b"stale");
     show(rt, b"stale", b"/rom");
@@ -192,12 +193,9 @@ fn areas(rt: &(impl Files + Print)) {
 
 // One of two words, by a test.
 fn show_which(rt: &impl Print, word: &[u8], holds: bool, yes: &[u8], no: &[u8]) {
+    let answer = if holds { yes } else { no };
     Line::empty().text(word).print(rt);
-    if holds {
-        Line::empty().text(yes).print(rt);
-        return;
-    }
-    Line::empty().text(no).print(rt);
+    Line::empty().text(answer).print(rt);
 }
 
 // Whether a place is a folder.
@@ -205,7 +203,7 @@ fn show_any(rt: &(impl Files + Print), word: &[u8], state: &[u8], names: &[u8]) 
     show_which(
         rt,
         word,
-        night_commit::has_folder(rt, state, names),
+        night_commit::has_folder(rt, Places { state, names }),
         b": a folder\n",
         b": no folder\n",
     );

@@ -2,8 +2,8 @@
 use Rattle.night_steps.proofs.Ahead.{ahead}
 use Rattle.night_commit.proofs.carry.Given as goal
 
-abbrev pub invariant-loop-taken : goal.invariant-loop-taken
-invariant-loop-taken g l = Unit
+abbrev pub invariant-loop-places : goal.invariant-loop-places
+invariant-loop-places g l = Unit
 
-abbrev pub decreases-loop-taken : goal.decreases-loop-taken
-decreases-loop-taken g l = ahead l.files l.op
+abbrev pub decreases-loop-places : goal.decreases-loop-places
+decreases-loop-places g l = ahead l.files l.op
