@@ -21,11 +21,7 @@ pub enum ListRefusal {
 fn byte_at(image: &[u8], address: usize) -> u8
     ensures { result ≡ image_byte image.now address }
 {
-    if address < image.len() {
-        image[address]
-    } else {
-        0
-    }
+    image.get(address).copied().unwrap_or(0)
 }
 
 // An instruction that is cut off is data.
@@ -33,12 +29,8 @@ fn fitting(decoded: Option<Instruction>, room: usize) -> Option<Instruction>
     ensures { result ≡ fitting_in room decoded }
 {
     match decoded {
-        None => None,
-        Some(i) => if room < i.length as usize {
-            None
-        } else {
-            Some(i)
-        },
+        Some(i) if i.length as usize <= room => decoded,
+        _ => None,
     }
 }
 
@@ -63,9 +55,7 @@ pub fn bytes_of(shown: Option<Instruction>) -> u8
 // The line of what is listed at an address.
 pub fn line_at(image: &[u8], address: usize, shown: Option<Instruction>) -> Text
     requires { (address < 65536) × (1 ≤ bytes_of shown) × (bytes_of shown ≤ 3) }
-    ensures { let b = image_byte image.now in
-        let line = item_line address shown (b address) (b (address + 1)) (b (address + 2)) in
-        (take result.length result.bytes ≡ line) × (length line ≡ result.length) × (result.length ≤ 28) }
+    ensures { let b = image_byte image.now in result.items ≡ item_line address shown (b address) (b (address + 1)) (b (address + 2)) }
 {
     listing_lines::item_line(
         address as u16,
@@ -85,18 +75,18 @@ fn measure(image: &[u8], first: usize, last: usize) -> usize
     let mut n = 0;
     while address <= last {
         let shown = shown_at(image, last, address);
-        n = n + listing_lines::item_size(shown) as usize;
-        address = address + bytes_of(shown) as usize;
+        n += listing_lines::item_size(shown) as usize;
+        address += bytes_of(shown) as usize;
     }
     n
 }
 
-// The first n characters are put into a buffer.
-pub fn put(bytes: [u8; 28], n: usize, at: usize, buffer: &mut [u8])
-    requires { (n ≤ 28) × (at + n ≤ length buffer.old) }
-    ensures { buffer.new ≡ sets buffer.old at (take n bytes) }
+// A line is put into a buffer.
+pub fn put(line: &[u8], at: usize, buffer: &mut [u8])
+    requires { at + length line.now ≤ length buffer.old }
+    ensures { buffer.new ≡ sets buffer.old at line.now }
 {
-    numbers::copy(&bytes[..n], &mut buffer[at..]);
+    numbers::copy(line, &mut buffer[at..]);
 }
 
 // The listing is put at the buffer's front.
@@ -109,11 +99,9 @@ fn write(image: &[u8], first: usize, last: usize, buffer: &mut [u8])
     while address <= last {
         let shown = shown_at(image, last, address);
         let text = line_at(image, address, shown);
-        let bytes = text.bytes;
-        let n = text.length as usize;
-        put(bytes, n, at, buffer);
-        at = at + n;
-        address = address + bytes_of(shown) as usize;
+        put(text.as_slice(), at, buffer);
+        at += text.len();
+        address += bytes_of(shown) as usize;
     }
 }
 
@@ -125,8 +113,7 @@ pub fn list(image: &[u8], first: u32, last: u32, buffer: &mut [u8]) -> Result<us
     if image.len() != 65536 {
         return Err(ListRefusal::WrongImage);
     }
-    let bad = (65535 < last) | (last < first);
-    if bad {
+    if 65535 < last || last < first {
         return Err(ListRefusal::WrongRange);
     }
     let n = measure(image, first as usize, last as usize);

@@ -14,7 +14,7 @@ use Rattle.laws.proofs.Bools.{both}
 use Rattle.laws.proofs.Conds.{picks, passes as passes-by}
 use Rattle.opcodes.specs.Opcodes.{decode_of}
 use Rattle.opcodes.specs.declared.Place.TheVariants.{Inherent, Relative}
-use Rattle.std.specs.Prelude.{Option, None, Some}
+use Rattle.std.specs.Prelude.{Option, None, Some, Err}
 use Rattle.opcodes.specs.declared.Instruction.{Instruction}
 use Rattle.opcodes.proofs.Table.{passes, both as both-pass}
 use Rattle.mnemonics.specs.Mnemonics.{mnemonic_of}
@@ -23,7 +23,7 @@ use Rattle.listing_lines.specs.declared.Form.{Form}
 use Rattle.listing_lines.specs.declared.Form.TheVariants.{Bare, HashByte, HashWord, Byte, Word, Indexed}
 use Rattle.listing_codes.specs.Codes.{form_number, same_name, same_form, is_written, first_from, code_for, branch_to, placed_at, coded_as, is_data, coded_of}
 use Rattle.listing_codes.specs.Keys.{key_of, Named, decoded_key, key_at}
-use Rattle.listing_codes.specs.declared.Read.TheVariants.{Bad}
+use Rattle.listing_codes.specs.declared.Unread.TheVariants.{Bad}
 
 -- a key is put together of two numbers of two characters and a form's number
 pub key_joined : (name : List ℕ) (form : Form) (h l f : ℕ) → h ≡ paired (get_or name 0 0) (get_or name 1 0) → l ≡ paired (get_or name 2 0) (get_or name 3 0)
@@ -162,8 +162,8 @@ pub table_ends : decode_of 256 ≡ None
 unfolding decode_of
 table_ends = refl
 
-pub past_table : (address op v size : ℕ) → 256 ≤ op → op ≤ 256 → Bad ≡ coded_as address op (decode_of op) v size
-past_table address op v size h l = let e : op ≡ 256 = omega arith in rw (e, table_ends)
+pub past_table : (address op v size : ℕ) → op ≡ 256 → Err Bad ≡ coded_as address op (decode_of op) v size
+past_table address op v size e = rw (e, table_ends)
 
 -- a line is data where its key is that of FCB with a byte, and else an opcode that is searched
 module _ (address : ℕ) (name : List ℕ) (form : Form) (v size k l : ℕ) (this : (k ≡ key_of name form) × Named name)

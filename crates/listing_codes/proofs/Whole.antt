@@ -13,29 +13,29 @@ use Rattle.opcodes.specs.Fits.{operand_bytes}
 use Rattle.opcodes.specs.declared.Place.{Place}
 use Rattle.opcodes.specs.declared.Place.TheVariants.{Inherent, AccumulatorA, AccumulatorB, ImmediateByte, ImmediateWord}
 use Rattle.opcodes.specs.declared.Place.TheVariants.{Direct, Indexed, Extended, Relative}
-use Rattle.std.specs.Prelude.{Option, None, Some}
+use Rattle.std.specs.Prelude.{Option, None, Some, Result, Ok, Err}
 use Rattle.opcodes.specs.declared.Instruction.{Instruction}
 use Rattle.opcodes.proofs.Fits.{fits}
 use Rattle.listing_lines.specs.declared.Form.{Form}
-use Rattle.listing_codes.specs.Codes.{code_for, piece, branch_distance, is_far, placed_at, coded_as, is_data, coded_of}
-use Rattle.listing_codes.specs.declared.Piece.{Piece}
-use Rattle.listing_codes.specs.declared.Read.{Read}
-use Rattle.listing_codes.specs.declared.Read.TheVariants.{Bad, Far, Line}
+use Rattle.listing_codes.specs.Codes.{code_for, piece, line, branch_distance, is_far, placed_at, coded_as, is_data, coded_of}
+use Rattle.listing_codes.specs.declared.Line.{Line}
+use Rattle.listing_codes.specs.declared.Unread.{Unread}
+use Rattle.listing_codes.specs.declared.Unread.TheVariants.{Bad, Far}
 
-pub record Whole (a size : ℕ) (p : Piece) (n : ℕ) : Type 0 where
-  pub sized : n ≡ size
-  pub least : 1 ≤ p.length
-  pub most : p.length ≤ 3
-  pub stands : p.address ≡ a
-  pub inside : a < 65536 → p.address + p.length ≤ 65536
+pub record Whole (a size : ℕ) (l : Line) : Type 0 where
+  pub sized : l.size ≡ size
+  pub least : 1 ≤ l.piece.length
+  pub most : l.piece.length ≤ 3
+  pub stands : l.piece.address ≡ a
+  pub inside : a < 65536 → l.piece.address + l.piece.length ≤ 65536
 
-abbrev Fair : ℕ → ℕ → Read → Type 0
-Fair a size Bad = Unit {0}
-Fair a size (Far b) = b ≡ a
-Fair a size (Line p n) = Whole a size p n
+abbrev Fair : ℕ → ℕ → Result Line Unread → Type 0
+Fair a size (Err Bad) = Unit {0}
+Fair a size (Err (Far b)) = b ≡ a
+Fair a size (Ok l) = Whole a size l
 
 module _ (a v size : ℕ) where
-  whole : (l x y z : ℕ) → 1 ≤ l → l ≤ 3 → (a < 65536 → a + l ≤ 65536) → Whole a size (piece a l x y z) size
+  whole : (l x y z : ℕ) → 1 ≤ l → l ≤ 3 → (a < 65536 → a + l ≤ 65536) → Whole a size (record { piece = piece a l x y z; size = size })
   whole l x y z least most h = record { sized = refl; least = least; most = most; stands = refl; inside = h }
 
   -- the bytes of an opcode are as many as its length
@@ -50,13 +50,13 @@ module _ (a v size : ℕ) where
   placed_fair op l Extended e h = whole 3 _ _ _ (omega arith) (omega arith) (λ _. omega arith)
   placed_fair op l Relative e h =
       let d = branch_distance a v in
-      cases (Fair a size) (is_far d) {x = Far a} {y = Line (piece a 2 op (low d) 0) size} (λ _. refl)
+      cases (Fair a size) (is_far d) {x = Err (Far a)} {y = line (piece a 2 op (low d) 0) size} (λ _. refl)
       (λ _. whole 2 _ _ _ (omega arith) (omega arith) (λ _. omega arith))
 
   coded_as_fair : (op : ℕ) (d : Option Instruction) → decode_of op ≡ d → Fair a size (coded_as a op d v size)
   coded_as_fair op None e = tt
   coded_as_fair op (Some i) e =
-      cases (Fair a size) (ltb 65536 (a + i.length)) {x = Bad} {y = placed_at a op i.place v size} (λ _. tt)
+      cases (Fair a size) (ltb 65536 (a + i.length)) {x = Err Bad} {y = placed_at a op i.place v size} (λ _. tt)
       (λ f. placed_fair op i.length i.place (fits op i e).0 (ltb-false 65536 (a + i.length) f))
 
   module _ (name : List ℕ) (form : Form) where
@@ -64,11 +64,11 @@ module _ (a v size : ℕ) where
     unfolding coded_of
     coded_fair =
         let op = code_for name form in
-        cases (Fair a size) (is_data name form) {x = Line (piece a 1 (low v) 0 0) size} {y = coded_as a op (decode_of op) v size}
+        cases (Fair a size) (is_data name form) {x = line (piece a 1 (low v) 0 0) size} {y = coded_as a op (decode_of op) v size}
         (λ _. whole 1 _ _ _ (omega arith) (omega arith) (λ h. omega arith)) (λ _. coded_as_fair op (decode_of op) refl)
 
-    pub coded_whole : (p : Piece) (n : ℕ) → coded_of a name form v size ≡ Line p n → Whole a size p n
-    coded_whole p n e = subst (Fair a size) e coded_fair
+    pub coded_whole : (l : Line) → coded_of a name form v size ≡ Ok l → Whole a size l
+    coded_whole l e = subst (Fair a size) e coded_fair
 
-    pub coded_far : (b : ℕ) → coded_of a name form v size ≡ Far b → b ≡ a
+    pub coded_far : (b : ℕ) → coded_of a name form v size ≡ Err (Far b) → b ≡ a
     coded_far b e = subst (Fair a size) e coded_fair

@@ -1,7 +1,7 @@
 // A mnemonic with an operand as bytes: the opcode is searched among the 256 values of `decode` (specs/Codes.antt).
 #![tactic(auto)]
 
-ghost use Rattle.std.specs.Prelude.{◌≡◌, ◌≤◌, ◌<◌};
+ghost use Rattle.std.specs.Prelude.{◌≡◌, ◌<◌, MatchOption};
 ghost use Rattle.bits.specs.Words.{paired};
 ghost use Rattle.listing_codes.specs.Codes.{form_number, code_for, branch_to, placed_at, coded_as, coded_of};
 ghost use Rattle.listing_codes.specs.Keys.{key_of, Named, decoded_key, Keys};
@@ -37,14 +37,7 @@ pub enum Unread {
 fn form_number(form: Form) -> u8
     ensures { (result ≡ form_number form) × (result < 8) }
 {
-    match form {
-        Form::Bare => 0,
-        Form::HashByte => 1,
-        Form::HashWord => 2,
-        Form::Byte => 3,
-        Form::Word => 4,
-        Form::Indexed => 5,
-    }
+    form as u8
 }
 
 // Two characters as one number. That each is below 256 is told here, for it is known of an argument and not of an array's elements.
@@ -69,12 +62,8 @@ fn decoded_key(decoded: Option<Instruction>) -> u64
     match decoded {
         None => 1099511627776,
         Some(i) => {
-            let operation = i.operation;
-            let place = i.place;
-            key(
-                mnemonics::mnemonic(operation, place),
-                listing_lines::form_of(place),
-            )
+            let name = mnemonics::mnemonic(i.operation, i.place);
+            key(name, listing_lines::form_of(i.place))
         }
     }
 }
@@ -84,28 +73,24 @@ pub fn keys() -> [u64; 256]
     ensures { Keys result }
 {
     let mut keys = [0u64; 256];
-    let mut op = 0;
-    while op < 256 {
+    for op in 0..256 {
         keys[op] = decoded_key(opcodes::decode(op as u8));
-        op = op + 1;
     }
     keys
 }
 
-// The first opcode that is written so, 256 where none is.
-fn code_for(keys: &[u64], name: [u8; 4], form: Form) -> usize
+// The first opcode that is written so.
+fn code_for(keys: &[u64], name: [u8; 4], form: Form) -> Option<u8>
     requires { Keys keys.now }
-    ensures { (result ≡ code_for name form) × (result ≤ 256) }
+    ensures { MatchOption result (code_for name form ≡ 256) (λ op. code_for name form ≡ op) }
 {
     let wanted = key(name, form);
-    let mut op = 0;
-    while op < 256 {
+    for op in 0..256 {
         if keys[op] == wanted {
-            return op;
+            return Some(op as u8);
         }
-        op = op + 1;
     }
-    op
+    None
 }
 
 fn one_byte(address: u16, op: u8, size: u8) -> Result<Line, Unread>
@@ -153,8 +138,7 @@ fn three_bytes(address: u16, op: u8, v: u16, size: u8) -> Result<Line, Unread>
 fn branch_to(address: u16, op: u8, distance: u16, size: u8) -> Result<Line, Unread>
     ensures { result ≡ branch_to address op distance size }
 {
-    let far = (127 < distance) & (distance < 65408);
-    if far {
+    if (128..65408).contains(&distance) {
         return Err(Unread::Far(address));
     }
     two_bytes(address, op, distance, size)
@@ -165,45 +149,50 @@ fn placed_at(address: u16, op: u8, place: Place, v: u16, size: u8) -> Result<Lin
     ensures { result ≡ placed_at address op place v size }
 {
     match place {
-        Place::Inherent => one_byte(address, op, size),
-        Place::AccumulatorA => one_byte(address, op, size),
-        Place::AccumulatorB => one_byte(address, op, size),
-        Place::ImmediateByte => two_bytes(address, op, v, size),
-        Place::ImmediateWord => three_bytes(address, op, v, size),
-        Place::Direct => two_bytes(address, op, v, size),
-        Place::Indexed => two_bytes(address, op, v, size),
-        Place::Extended => three_bytes(address, op, v, size),
+        Place::Inherent | Place::AccumulatorA | Place::AccumulatorB => one_byte(address, op, size),
+        Place::ImmediateByte | Place::Direct | Place::Indexed => two_bytes(address, op, v, size),
+        Place::ImmediateWord | Place::Extended => three_bytes(address, op, v, size),
         Place::Relative => branch_to(address, op, minus(v, plus(address, 2)), size),
     }
 }
 
-fn coded_as(address: u16, op: u8, decoded: Option<Instruction>, v: u16, size: u8) -> Result<Line, Unread>
+fn coded_as(
+    address: u16,
+    op: u8,
+    decoded: Option<Instruction>,
+    v: u16,
+    size: u8,
+) -> Result<Line, Unread>
     ensures { result ≡ coded_as address op decoded v size }
 {
     match decoded {
         None => Err(Unread::Bad),
         Some(i) => {
-            let place = i.place;
             if 65536 < address as u32 + i.length as u32 {
                 return Err(Unread::Bad);
             }
-            placed_at(address, op, place, v, size)
+            placed_at(address, op, i.place, v, size)
         }
     }
 }
 
 // What a line of the published form comes to.
-pub fn coded(keys: &[u64], address: u16, name: [u8; 4], form: Form, v: u16, size: u8) -> Result<Line, Unread>
+pub fn coded(
+    keys: &[u64],
+    address: u16,
+    name: [u8; 4],
+    form: Form,
+    v: u16,
+    size: u8,
+) -> Result<Line, Unread>
     requires { Keys keys.now }
     ensures { result ≡ coded_of address name form v size }
 {
     if key(name, form) == key(*b"FCB ", Form::Byte) {
         return one_byte(address, lower(v), size);
     }
-    let op = code_for(keys, name, form);
-    if 256 <= op {
-        return Err(Unread::Bad);
+    match code_for(keys, name, form) {
+        None => Err(Unread::Bad),
+        Some(op) => coded_as(address, op, opcodes::decode(op), v, size),
     }
-    let byte = op as u8;
-    coded_as(address, byte, opcodes::decode(byte), v, size)
 }

@@ -1,11 +1,12 @@
 // One line of a listing, as it is published: specs/Lines.antt has its columns.
 #![tactic(auto)]
 
-ghost use Rattle.std.specs.Prelude.{◌≡◌, [], ◌∷◌, ◌≤◌, length, take};
+ghost use Rattle.std.specs.Prelude.{◌≡◌, [], ◌∷◌, ◌≤◌, take};
 ghost use Rattle.characters.specs.Characters.{hexadecimal_of};
 ghost use Rattle.listing_lines.specs.Lines.{form_of, published_line, column_of, operand_of, bytes_of, item_line};
 ghost use Rattle.listing_lines.specs.Cells.{head_of, ending_of, bare_fourth, fourth_of, size_of, item_size, cells_of};
 
+use arrayvec::ArrayVec;
 use bits::plus;
 use opcodes::{Instruction, Place};
 
@@ -20,18 +21,14 @@ pub enum Form {
     Indexed,
 }
 
-// The first `length` characters are a line, its end included.
-#[derive(Clone, Copy)]
-pub struct Text {
-    pub bytes: [u8; 28],
-    pub length: u8,
-}
+// A line, its end included.
+pub type Text = ArrayVec<u8, 28>;
 
 fn byte_digits(v: u8) -> [u8; 2]
     ensures { result ≡ hexadecimal_of 2 v }
 {
-    let high = v / 16;
-    [characters::digit(high % 16), characters::digit(v % 16)]
+    let w = word_digits(v as u16);
+    [w[2], w[3]]
 }
 
 fn word_digits(v: u16) -> [u8; 4]
@@ -86,11 +83,7 @@ fn fourth(c: u8, form: Form) -> u8
 {
     match form {
         Form::Bare => bare_fourth(c),
-        Form::HashByte => c,
-        Form::HashWord => c,
-        Form::Byte => c,
-        Form::Word => c,
-        Form::Indexed => c,
+        _ => c,
     }
 }
 
@@ -103,8 +96,7 @@ fn size(c: u8, form: Form) -> u8
         Form::HashByte => 26,
         Form::HashWord => 28,
         Form::Byte => 25,
-        Form::Word => 27,
-        Form::Indexed => 27,
+        Form::Word | Form::Indexed => 27,
     }
 }
 
@@ -120,21 +112,19 @@ fn joined(head: [u8; 16], name: [u8; 4], fourth: u8, ending: [u8; 8]) -> [u8; 28
 }
 
 // The line of an address, with these characters in columns 7 to 14.
+#[tactic(auto, using(crate::proofs::Laws::cells_line))]
 pub fn line(address: u16, column: [u8; 8], name: [u8; 4], form: Form, v: u16) -> Text
-    ensures { (take result.length result.bytes ≡ published_line address column name form v)
-        × (length (published_line address column name form v) ≡ result.length) × (result.length ≤ 28) }
+    ensures { result.items ≡ published_line address column name form v }
 {
     let last = name[3];
-    let bytes = joined(
+    let mut text = ArrayVec::from(joined(
         head(address, column),
         name,
         fourth(last, form),
         ending(form, v),
-    );
-    Text {
-        bytes: bytes,
-        length: size(last, form),
-    }
+    ));
+    text.truncate(size(last, form) as usize);
+    text
 }
 
 // Columns 7 to 14: the first `length` of three bytes.
@@ -157,15 +147,12 @@ pub fn form_of(place: Place) -> Form
     ensures { result ≡ form_of place }
 {
     match place {
-        Place::Inherent => Form::Bare,
-        Place::AccumulatorA => Form::Bare,
-        Place::AccumulatorB => Form::Bare,
+        Place::Inherent | Place::AccumulatorA | Place::AccumulatorB => Form::Bare,
         Place::ImmediateByte => Form::HashByte,
         Place::ImmediateWord => Form::HashWord,
         Place::Direct => Form::Byte,
         Place::Indexed => Form::Indexed,
-        Place::Extended => Form::Word,
-        Place::Relative => Form::Word,
+        Place::Extended | Place::Relative => Form::Word,
     }
 }
 
@@ -174,23 +161,18 @@ fn operand(address: u16, place: Place, second: u8, third: u8) -> u16
     ensures { result ≡ operand_of address place second third }
 {
     match place {
-        Place::Inherent => 0,
-        Place::AccumulatorA => 0,
-        Place::AccumulatorB => 0,
-        Place::ImmediateByte => second as u16,
-        Place::ImmediateWord => bits::pair(second, third),
-        Place::Direct => second as u16,
-        Place::Indexed => second as u16,
-        Place::Extended => bits::pair(second, third),
+        Place::Inherent | Place::AccumulatorA | Place::AccumulatorB => 0,
+        Place::ImmediateByte | Place::Direct | Place::Indexed => second as u16,
+        Place::ImmediateWord | Place::Extended => bits::pair(second, third),
         Place::Relative => plus(plus(address, 2), registers::offset_of(second)),
     }
 }
 
 // The line of what is listed at an address: an instruction, or a data byte where `shown` is undefined.
+#[tactic(auto, unfolding(crate::specs::Lines::item_line))]
 pub fn item_line(address: u16, shown: Option<Instruction>, first: u8, second: u8, third: u8) -> Text
     requires { (1 ≤ bytes_of shown) × (bytes_of shown ≤ 3) }
-    ensures { (take result.length result.bytes ≡ item_line address shown first second third)
-        × (length (item_line address shown first second third) ≡ result.length) × (result.length ≤ 28) }
+    ensures { result.items ≡ item_line address shown first second third }
 {
     match shown {
         None => {
@@ -198,17 +180,10 @@ pub fn item_line(address: u16, shown: Option<Instruction>, first: u8, second: u8
             line(address, bytes, *b"FCB ", Form::Byte, first as u16)
         }
         Some(i) => {
-            let place = i.place;
-            let operation = i.operation;
             let bytes = column(i.length, first, second, third);
-            let name = mnemonics::mnemonic(operation, place);
-            line(
-                address,
-                bytes,
-                name,
-                form_of(place),
-                operand(address, place, second, third),
-            )
+            let name = mnemonics::mnemonic(i.operation, i.place);
+            let operand = operand(address, i.place, second, third);
+            line(address, bytes, name, form_of(i.place), operand)
         }
     }
 }
@@ -220,10 +195,8 @@ pub fn item_size(shown: Option<Instruction>) -> u8
     match shown {
         None => 25,
         Some(i) => {
-            let place = i.place;
-            let operation = i.operation;
-            let name = mnemonics::mnemonic(operation, place);
-            size(name[3], form_of(place))
+            let name = mnemonics::mnemonic(i.operation, i.place);
+            size(name[3], form_of(i.place))
         }
     }
 }

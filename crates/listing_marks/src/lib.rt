@@ -58,10 +58,8 @@ fn put_line(
     buffer[at] = mark(map, address, listing::bytes_of(shown));
     buffer[at + 1] = b' ';
     let text = listing::line_at(image, address, shown);
-    let bytes = text.bytes;
-    let n = text.length as usize;
-    listing::put(bytes, n, at + 2, buffer);
-    n + 2
+    listing::put(text.as_slice(), at + 2, buffer);
+    text.len() + 2
 }
 
 // The listing with its column is put at the buffer's front; the answer is how many characters it has.
@@ -75,8 +73,8 @@ fn write(map: &[u8], image: &[u8], first: usize, last: usize, buffer: &mut [u8])
     while address <= last {
         let shown = listing::shown_at(image, last, address);
         let n = put_line(map, image, address, shown, at, buffer);
-        at = at + n;
-        address = address + listing::bytes_of(shown) as usize;
+        at += n;
+        address += listing::bytes_of(shown) as usize;
     }
     at
 }
@@ -95,8 +93,7 @@ pub fn list_marked(
     if image.len() != 65536 {
         return Err(MarkRefusal::WrongImage);
     }
-    let bad = (65535 < last) | (last < first);
-    if bad {
+    if 65535 < last || last < first {
         return Err(MarkRefusal::WrongRange);
     }
     if !map_file::is_map(file) {

@@ -14,8 +14,7 @@ fn character(line: &[u8], column: usize) -> u8
     requires { 1 ≤ column }
     ensures { result ≡ at line.now column }
 {
-    let k = column - 1;
-    if k < line.len() { line[k] } else { 0 }
+    line.get(column - 1).copied().unwrap_or(0)
 }
 
 // A digit's value.
@@ -94,8 +93,7 @@ fn name_in(line: &[u8]) -> [u8; 4]
 fn form_in(line: &[u8]) -> Form
     ensures { result ≡ form_in line.now }
 {
-    let bare = (character(line, 20) == 10) | (character(line, 21) == 10);
-    if bare {
+    if character(line, 20) == 10 || character(line, 21) == 10 {
         return Form::Bare;
     }
     if character(line, 22) == b'#' {
@@ -121,9 +119,8 @@ fn operand_in(form: Form, line: &[u8]) -> u16
         Form::Bare => 0,
         Form::HashByte => byte_in(line, 24) as u16,
         Form::HashWord => word_in(line, 24),
-        Form::Byte => byte_in(line, 23) as u16,
+        Form::Byte | Form::Indexed => byte_in(line, 23) as u16,
         Form::Word => word_in(line, 23),
-        Form::Indexed => byte_in(line, 23) as u16,
     }
 }
 
@@ -131,31 +128,14 @@ fn operand_in(form: Form, line: &[u8]) -> u16
 fn begins_with(text: &[u8], line: &[u8]) -> bool
     ensures { result ≡ begins text.now line.now }
 {
-    let mut i = 0;
-    while i < line.len() {
-        if text.len() <= i {
-            return false;
-        }
-        if text[i] != line[i] {
-            return false;
-        }
-        i = i + 1;
-    }
-    true
+    text.starts_with(line)
 }
 
 // Columns 7 to 14 are on one line.
 fn is_unbroken(column: [u8; 8]) -> bool
     ensures { result ≡ no_end column }
 {
-    (column[0] != 10)
-        & (column[1] != 10)
-        & (column[2] != 10)
-        & (column[3] != 10)
-        & (column[4] != 10)
-        & (column[5] != 10)
-        & (column[6] != 10)
-        & (column[7] != 10)
+    !column.contains(&10)
 }
 
 // The line that a text begins with.
@@ -169,13 +149,8 @@ pub fn read_line(keys: &[u64], text: &[u8]) -> Result<Line, Unread>
     let form = form_in(text);
     let v = operand_in(form, text);
     let line = listing_lines::line(address, column, name, form, v);
-    let bytes = line.bytes;
-    let size = line.length;
-    if !begins_with(text, &bytes[..size as usize]) {
+    if !begins_with(text, line.as_slice()) || !is_unbroken(column) {
         return Err(Unread::Bad);
     }
-    if !is_unbroken(column) {
-        return Err(Unread::Bad);
-    }
-    listing_codes::coded(keys, address, name, form, v, size)
+    listing_codes::coded(keys, address, name, form, v, line.len() as u8)
 }

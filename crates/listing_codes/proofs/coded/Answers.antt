@@ -1,5 +1,5 @@
 -- `listing_codes::coded` meets its contract: data, no opcode, or the opcode that was found. Assumes nothing.
-use mathlib.Core.Path.{refl, ◌∙◌}
+use mathlib.Core.Path.{refl, sym, ◌∙◌}
 use Rattle.listing_codes.proofs.Laws.{coded_data, coded_code, past_table}
 use Rattle.listing_codes.proofs.coded.Goals as goal
 
@@ -9,16 +9,14 @@ returns-then-key c =
     let fcb = c.key-2.ensures in
     c.one_byte.ensures ∙ coded_data _ _ _ _ _ _ _ this fcb _ c.lower.ensures c.if-key.true
 
-pub returns-then-op-ge256 : goal.returns-then-op-ge256
-returns-then-op-ge256 c =
+pub returns-in-None : goal.returns-in-None
+returns-in-None c =
     let this = c.key.ensures in
     let fcb = c.key-2.ensures in
-    let op = c.code_for-op.ensures in
-    past_table _ _ _ _ c.if-op-ge256.true op.1 ∙ coded_code _ _ _ _ _ _ _ this fcb _ _ op.0 refl c.if-key.false
+    past_table _ _ _ _ c.in-None.ensures ∙ coded_code _ _ _ _ _ _ _ this fcb _ _ refl refl c.if-key.false
 
-pub returns : goal.returns
-returns c =
+pub returns-in-Some : goal.returns-in-Some
+returns-in-Some c =
     let this = c.key.ensures in
     let fcb = c.key-2.ensures in
-    let op = c.code_for-op.ensures.0 in
-    c.coded_as.ensures ∙ coded_code _ _ _ _ _ _ _ this fcb _ _ op c.decode.ensures c.if-key.false
+    c.coded_as.ensures ∙ coded_code _ _ _ _ _ _ _ this fcb _ _ (sym c.in-Some.ensures) c.decode.ensures c.if-key.false

@@ -9,6 +9,6 @@ pub loop-op-preserved : goal.loop-op-preserved
 loop-op-preserved c =
     let l = c.loop-op in
     let t = c.loop-op-test.true in
-    let n = l.invariant.1 in
+    let n = l.invariant.0 in
     let e = key_at_lem l.op _ _ c.decode.ensures c.decoded_key.ensures in
-    (omega arith, length-set l.keys _ _ ∙ n, keys_more l.keys _ _ (omega arith) l.invariant.2 e)
+    (length-set l.keys _ _ ∙ n, keys_more l.keys _ _ (omega arith) l.invariant.1 e)
