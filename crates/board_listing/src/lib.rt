@@ -17,8 +17,7 @@ pub fn list(image: &[u8], first: u32, last: u32, buffer: &mut [u8], res: &mut [u
     if res.len() < 8 {
         return 29;
     }
-    let listed = listing::list(image, first, last, buffer);
-    match listed {
+    match listing::list(image, first, last, buffer) {
         Ok(n) => board_results::tell(0, n, res),
         Err(ListRefusal::WrongImage) => 1,
         Err(ListRefusal::WrongRange) => 22,
@@ -43,8 +42,7 @@ pub fn assemble(text: &[u8], buffer: &mut [u8], res: &mut [u8]) -> u32
     if res.len() < 16 {
         return 29;
     }
-    let assembled = assembling::assemble(text, buffer);
-    match assembled {
+    match assembling::assemble(text, buffer) {
         Ok(Some(Span { first, bytes })) => {
             tell_span(bytes, first, res);
             0

@@ -8,31 +8,31 @@ use Rattle.board_listing.proofs.assemble.Goals as goal
 pub returns-then-res-lt16 : goal.returns-then-res-lt16
 returns-then-res-lt16 c = let a = c.args in assemble_short a.text.now a.buffer.now a.res.now c.if-res-lt16.true
 
-pub returns-in-Wrote : goal.returns-in-Wrote
-returns-in-Wrote c = let a = c.args in
+pub returns-in-Ok-Some : goal.returns-in-Ok-Some
+returns-in-Ok-Some c = let a = c.args in
     ap (returned 0 _) c.tell_span.ensures
     ∙ assemble_left a.text.now a.buffer.now a.res.now _
-    c.if-res-lt16.false c.assemble-assembled.ensures c.in-Wrote.is
+    c.if-res-lt16.false c.assemble.ensures c.in-Ok-Some.is
 
-pub returns-in-Empty : goal.returns-in-Empty
-returns-in-Empty c = let a = c.args in
-    ap (returned 0 _) c.tell_span-in-Empty.ensures
+pub returns-in-Ok-None : goal.returns-in-Ok-None
+returns-in-Ok-None c = let a = c.args in
+    ap (returned 0 _) c.tell_span-in-Ok-None.ensures
     ∙ assemble_left a.text.now a.buffer.now a.res.now _
-    c.if-res-lt16.false c.assemble-assembled.ensures c.in-Empty.is
+    c.if-res-lt16.false c.assemble.ensures c.in-Ok-None.is
 
-pub returns-in-Malformed : goal.returns-in-Malformed
-returns-in-Malformed c = let a = c.args in
+pub returns-in-Err-Malformed : goal.returns-in-Err-Malformed
+returns-in-Err-Malformed c = let a = c.args in
     returned_told _ a.res.now _ _ c.tell.ensures
     ∙ assemble_left a.text.now a.buffer.now a.res.now _
-    c.if-res-lt16.false c.assemble-assembled.ensures c.in-Malformed.is
+    c.if-res-lt16.false c.assemble.ensures c.in-Err-Malformed.is
 
-pub returns-in-TooFar : goal.returns-in-TooFar
-returns-in-TooFar c = let a = c.args in
-    returned_told _ a.res.now _ _ c.tell-in-TooFar.ensures
+pub returns-in-Err-TooFar : goal.returns-in-Err-TooFar
+returns-in-Err-TooFar c = let a = c.args in
+    returned_told _ a.res.now _ _ c.tell-in-Err-TooFar.ensures
     ∙ assemble_left a.text.now a.buffer.now a.res.now _
-    c.if-res-lt16.false c.assemble-assembled.ensures c.in-TooFar.is
+    c.if-res-lt16.false c.assemble.ensures c.in-Err-TooFar.is
 
-pub returns-in-NoRoom : goal.returns-in-NoRoom
-returns-in-NoRoom c = let a = c.args in
+pub returns-in-Err-NoRoom : goal.returns-in-Err-NoRoom
+returns-in-Err-NoRoom c = let a = c.args in
     assemble_left a.text.now a.buffer.now a.res.now _
-    c.if-res-lt16.false c.assemble-assembled.ensures c.in-NoRoom.is
+    c.if-res-lt16.false c.assemble.ensures c.in-Err-NoRoom.is

@@ -7,23 +7,23 @@ use Rattle.board_listing.proofs.list.Goals as goal
 pub returns-then-res-lt8 : goal.returns-then-res-lt8
 returns-then-res-lt8 c = let a = c.args in list_short a.image.now a.first a.last a.buffer.now a.res.now c.if-res-lt8.true
 
-pub returns-in-Wrote : goal.returns-in-Wrote
-returns-in-Wrote c = let a = c.args in
+pub returns-in-Ok : goal.returns-in-Ok
+returns-in-Ok c = let a = c.args in
     returned_told _ a.res.now _ _ c.tell.ensures
     ∙ list_left a.image.now a.first a.last a.buffer.now a.res.now _
-    c.if-res-lt8.false c.list-listed.ensures c.in-Wrote.is
+    c.if-res-lt8.false c.list.ensures c.in-Ok.is
 
-pub returns-in-WrongImage : goal.returns-in-WrongImage
-returns-in-WrongImage c = let a = c.args in
+pub returns-in-Err-WrongImage : goal.returns-in-Err-WrongImage
+returns-in-Err-WrongImage c = let a = c.args in
     list_left a.image.now a.first a.last a.buffer.now a.res.now _
-    c.if-res-lt8.false c.list-listed.ensures c.in-WrongImage.is
+    c.if-res-lt8.false c.list.ensures c.in-Err-WrongImage.is
 
-pub returns-in-WrongRange : goal.returns-in-WrongRange
-returns-in-WrongRange c = let a = c.args in
+pub returns-in-Err-WrongRange : goal.returns-in-Err-WrongRange
+returns-in-Err-WrongRange c = let a = c.args in
     list_left a.image.now a.first a.last a.buffer.now a.res.now _
-    c.if-res-lt8.false c.list-listed.ensures c.in-WrongRange.is
+    c.if-res-lt8.false c.list.ensures c.in-Err-WrongRange.is
 
-pub returns-in-NoRoom : goal.returns-in-NoRoom
-returns-in-NoRoom c = let a = c.args in
+pub returns-in-Err-NoRoom : goal.returns-in-Err-NoRoom
+returns-in-Err-NoRoom c = let a = c.args in
     list_left a.image.now a.first a.last a.buffer.now a.res.now _
-    c.if-res-lt8.false c.list-listed.ensures c.in-NoRoom.is
+    c.if-res-lt8.false c.list.ensures c.in-Err-NoRoom.is
