@@ -9,8 +9,7 @@ use Rattle.boundary.specs.World.{Lent, lent, terms}
 use Rattle.cabinet.specs.Answers.{Answer, answer_of}
 use Rattle.printing.specs.Printing.{ascii}
 use Rattle.lines.specs.Lines.{counted, counts_text, registers_text, refused_text, refusal}
-use Rattle.bench_input.specs.declared.Input.{Input}
-use Rattle.bench_input.specs.declared.Input.TheVariants.{Bad, Run}
+use Rattle.bench_input.specs.declared.Run.{Run}
 use Rattle.bench_input.specs.Input.{input_of, image_of}
 
 -- "the reply, cycles, instructions, interrupt entries, records used and bytes sent in decimal, then registers in hexadecimal"
@@ -38,16 +37,11 @@ unfoldable pub unloaded : List ℕ
 unloaded = replicate 65536 0
 
 -- what a good input asks: N, R, and where its session begins; a bad one is reply 10
-pub record Request : Type 0 where
-  pub n : ℕ
-  pub r : ℕ
-  pub session : ℕ
+abbrev pub told_input : Option Run → Given Run
+told_input None = replies 10
+told_input (Some q) = gives q
 
-abbrev pub told_input : Input → Given Request
-told_input Bad = replies 10
-told_input (Run n r session) = gives (record { n = n; r = r; session = session })
-
-unfoldable pub input_text : List ℕ → Given Request → List ℕ
+unfoldable pub input_text : List ℕ → Given Run → List ℕ
 input_text input (replies k) = refused_text k none
 input_text input (gives q) =
     let image = image_of input unloaded in
@@ -59,4 +53,4 @@ line_of input = input_text input (told_input (input_of input)) ++ ascii "\n"
 
 -- an input that cannot be read to its end is a bad one
 abbrev pub bad_line : List ℕ
-bad_line = input_text [] (told_input Bad) ++ ascii "\n"
+bad_line = input_text [] (told_input None) ++ ascii "\n"

@@ -7,7 +7,7 @@ ghost use Rattle.cabinet.specs.Answers.{answered};
 ghost use Rattle.printing.specs.Printing.{empty_line, puts_of};
 ghost use Rattle.bench_answer.specs.Answer.{nothing, stop_text, text_of, powered_text, unloaded, line_of, bad_line};
 
-use bench_input::Input;
+use bench_input::Run;
 use cabinet::Ran;
 use machine::PowerRefusal;
 use printing::Line;
@@ -49,13 +49,6 @@ fn powered(session: &[u8], n: u32, r: u32, image: &mut [u8]) -> Line
     }
 }
 
-// An image with nothing loaded.
-fn blank() -> [u8; 65536]
-    ensures { (result ≡ unloaded) × (65536 ≡ length result) }
-{
-    [0u8; 65536]
-}
-
 // The line for a bad input.
 pub fn bad_line() -> Line
     ensures { result ≡ puts_of empty_line bad_line }
@@ -67,10 +60,9 @@ pub fn bad_line() -> Line
 pub fn answer(input: &[u8]) -> Line
     ensures { result ≡ puts_of empty_line (line_of input.now) }
 {
-    let mut image = blank();
-    let loaded = bench_input::load(input, &mut image);
-    match loaded {
-        Input::Bad => bad_line(),
-        Input::Run { n, r, session } => powered(&input[session..], n, r, &mut image).text(b"\n"),
+    let mut image = host::zeros::<65536>();
+    match bench_input::load(input, &mut image) {
+        Some(Run { n, r, session }) => powered(&input[session..], n, r, &mut image).text(b"\n"),
+        None => bad_line(),
     }
 }

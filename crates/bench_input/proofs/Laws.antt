@@ -17,8 +17,8 @@ use Rattle.turns.proofs.Laws.{loop_more, loop_done}
 use Rattle.session.specs.Session.{length_at, kind_at, next_at}
 use Rattle.bench_input.specs.Input.{is_whole, address_at, bytes_at, is_load, is_run, after_loads, stored_at}
 use Rattle.bench_input.specs.Input.{Filling, load_turn, loads_of, is_good, run_at, input_of, image_of}
-use Rattle.bench_input.specs.declared.Input.{Input}
-use Rattle.bench_input.specs.declared.Input.TheVariants.{Bad, Run}
+use Rattle.bench_input.specs.declared.Run.{Run}
+use Rattle.std.specs.Prelude.{Option, Some, None}
 
 pub set_past : (l : List ℕ) (i b : ℕ) → length l ≤ i → set l i b ≡ l
 set_past [] i b h = refl
@@ -116,24 +116,25 @@ module _ (s : List ℕ) where
   unfolding is_good
   run_good h e = rw (le-leb _ _ h, e)
 
-  pub loaded_bad : (image : List ℕ) → is_good s ≡ false → (Bad ≡ input_of s) × (image ≡ image_of s image)
+  pub loaded_bad : (image : List ℕ) → is_good s ≡ false → (◌≡◌ {A = Option Run} None (input_of s)) × (image ≡ image_of s image)
   unfolding input_of image_of
   loaded_bad image e = rw e (refl, refl)
 
-  pub loaded_run : (image : List ℕ) → is_good s ≡ true → (input_of s ≡ run_at s (after_loads s 0)) × (image_of s image ≡ loads_of s 0 image)
+  pub loaded_run : (image : List ℕ) → is_good s ≡ true → (input_of s ≡ Some (run_at s (after_loads s 0))) × (image_of s image ≡ loads_of s 0 image)
   unfolding input_of image_of
   loaded_run image e = rw e (refl, refl)
 
   -- a session begins within the input
-  pub session_within : (n r k : ℕ) → input_of s ≡ Run n r k → k ≤ length s
+  -- its session begins within it
+  pub session_within : {q : Run} → input_of s ≡ Some q → q.session ≤ length s
   unfolding input_of is_good
-  session_within n r k e = by (leb (length s) 16384) (is_run s (after_loads s 0)) refl e
+  session_within {q} e = by (leb (length s) 16384) (is_run s (after_loads s 0)) refl e
     where
-      place : Input → ℕ
-      place Bad = 0
-      place (Run n r k) = k
+      place : Option Run → ℕ
+      place None = 0
+      place (Some r) = r.session
 
-      by : (a b : Bool) → is_run s (after_loads s 0) ≡ b → cond (a && b) (run_at s (after_loads s 0)) Bad ≡ Run n r k → k ≤ length s
+      by : (a b : Bool) → is_run s (after_loads s 0) ≡ b → cond (a && b) (Some (run_at s (after_loads s 0))) None ≡ Some q → q.session ≤ length s
       by true true i e = subst (λ (x : ℕ). x ≤ length s) (ap place e) (run_within s (after_loads s 0) i).2
       by true false i e = subst (λ (x : ℕ). x ≤ length s) (ap place e) (omega arith)
       by false b i e = subst (λ (x : ℕ). x ≤ length s) (ap place e) (omega arith)

@@ -1,11 +1,10 @@
 -- 01's bench program: what its input holds. Its records have the head of session's, a two-byte length and a two-byte kind,
 -- and no time.
-use Rattle.std.specs.Prelude.{ℕ, ◌+◌, ◌-◌, List, [], ◌∷◌, Bool, cond, ◌&&◌, length, set, take, drop, eqb, leb}
+use Rattle.std.specs.Prelude.{ℕ, ◌+◌, ◌-◌, List, [], ◌∷◌, Bool, cond, ◌&&◌, length, set, take, drop, eqb, leb, Option, Some, None}
 use Rattle.turns.specs.Turn.{Turn, more, done, loop_of}
 use Rattle.numbers.specs.Numbers.{two, four}
 use Rattle.session.specs.Session.{length_at, kind_at, next_at}
-use Rattle.bench_input.specs.declared.Input.{Input}
-use Rattle.bench_input.specs.declared.Input.TheVariants.{Bad, Run}
+use Rattle.bench_input.specs.declared.Run.{Run}
 
 -- the record at a place is not cut short
 abbrev pub is_whole : List ℕ → ℕ → Bool
@@ -58,11 +57,11 @@ unfoldable pub is_good : List ℕ → Bool
 is_good s = leb (length s) 16384 && is_run s (after_loads s 0)
 
 -- N, R and where the session begins, of the run record at a place
-abbrev pub run_at : List ℕ → ℕ → Input
-run_at s at = Run (four s at 4) (four s at 8) (next_at s at)
+abbrev pub run_at : List ℕ → ℕ → Run
+run_at s at = record { n = four s at 4; r = four s at 8; session = next_at s at }
 
-unfoldable pub input_of : List ℕ → Input
-input_of s = cond (is_good s) (run_at s (after_loads s 0)) Bad
+unfoldable pub input_of : List ℕ → Option Run
+input_of s = cond (is_good s) (Some (run_at s (after_loads s 0))) None
 
 -- the image after the loading: a bad input leaves it
 unfoldable pub image_of : List ℕ → List ℕ → List ℕ

@@ -6,14 +6,16 @@ ghost use Rattle.bench_input.specs.Input.{is_load, is_run, after_loads, stored_a
 
 use numbers::{four_at, two_at};
 
-// What an input holds: N, R and the place where its session begins; or it is bad.
+// What a good input holds: N, R and the place where its session begins.
 #[derive(Clone, Copy)]
-pub enum Input {
-    Bad,
-    Run { n: u32, r: u32, session: usize },
+pub struct Run {
+    pub n: u32,
+    pub r: u32,
+    pub session: usize,
 }
 
 // Whether a whole and right load record stands at a place.
+#[tactic(auto, unfolding(crate::specs::Input::is_load, session::specs::Session::length_at, session::specs::Session::kind_at))]
 fn is_load(input: &[u8], at: usize) -> bool
     requires { at ≤ length input.now }
     ensures { result ≡ is_load input.now at }
@@ -25,6 +27,7 @@ fn is_load(input: &[u8], at: usize) -> bool
 }
 
 // Whether a whole and right run record stands at a place.
+#[tactic(auto, unfolding(crate::specs::Input::is_run, session::specs::Session::length_at, session::specs::Session::kind_at))]
 fn is_run(input: &[u8], at: usize) -> bool
     requires { at ≤ length input.now }
     ensures { result ≡ is_run input.now at }
@@ -59,12 +62,10 @@ fn store(bytes: &[u8], address: u16, image: &mut [u8])
     requires { length bytes.now ≤ 65536 }
     ensures { image.new ≡ stored_at image.old address bytes.now }
 {
-    let mut i = 0;
-    let mut to = address as usize;
-    while i < bytes.len() {
-        store_byte(bytes[i], to, image);
-        i = i + 1;
-        to = to + 1;
+    let mut at = address as usize;
+    for byte in bytes {
+        store_byte(*byte, at, image);
+        at += 1;
     }
 }
 
@@ -82,20 +83,20 @@ fn store_loads(input: &[u8], image: &mut [u8])
 }
 
 // The image is loaded where the input is good, and untouched where it is bad.
-pub fn load(input: &[u8], image: &mut [u8]) -> Input
+pub fn load(input: &[u8], image: &mut [u8]) -> Option<Run>
     ensures { (result ≡ input_of input.now) × (image.new ≡ image_of input.now image.old) }
 {
     if input.len() > 16384 {
-        return Input::Bad;
+        return None;
     }
     let at = after_loads(input);
     if !is_run(input, at) {
-        return Input::Bad;
+        return None;
     }
     store_loads(input, image);
-    Input::Run {
+    Some(Run {
         n: four_at(input, at, 4),
         r: four_at(input, at, 8),
         session: session::next_at(input, at),
-    }
+    })
 }
