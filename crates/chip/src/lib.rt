@@ -368,8 +368,7 @@ impl Core {
     {
         let f = self.fetched(image);
         let o = f.locate(i.place, image, area);
-        o.next
-            .operate(i.operation, i.place, o.value, image, area)
+        o.next.operate(i.operation, i.place, o.value, image, area)
     }
 }
 

@@ -3,7 +3,7 @@ use Prim.Native.Nat.{ℕ, ◌%◌, ◌≤◌}
 use native.Mathlib.Omega.{arith}
 use mathlib.Core.Path.{◌≡◌, refl, sym, ap, subst, ◌∙◌}
 use mathlib.Core.Bool.{Bool, true, false, true≢false, cond, ◌&&◌}
-use mathlib.Core.Option.{Option, none, some, get_or}
+use Rattle.std.specs.Prelude.{Option, None, Some, unwrap_or}
 use mathlib.Core.List.{List}
 use mathlib.Core.Logic.{◌↔◌}
 use lib.ListN.{length}
@@ -167,20 +167,20 @@ module _ (l : List ℕ) where
   loaded_ranges m e = let h = (load_gives m).0 e in subst (λ (k : Machine). Ranges k.chip.bus) (sym h.4) h.3.machine
 
 abbrev refused_by : Bool → Option ℕ
-refused_by fits = cond fits none (some 26)
+refused_by fits = cond fits None (Some 26)
 
 module _ (bytes : List ℕ) where
   -- 26: "a wrong length", and the lent bytes are as they were
-  pub save_26 : (save_of bytes ≡ some 26) ↔ (length bytes ≡ 42 → ⊥)
+  pub save_26 : (save_of bytes ≡ Some 26) ↔ (length bytes ≡ 42 → ⊥)
   save_26 = (λ e. by (eqb (length bytes) 42) refl e, λ n. ap refused_by (ne_eqb (length bytes) 42 n))
     where
-      by : (fits : Bool) → eqb (length bytes) 42 ≡ fits → refused_by fits ≡ some 26 → length bytes ≡ 42 → ⊥
+      by : (fits : Bool) → eqb (length bytes) 42 ≡ fits → refused_by fits ≡ Some 26 → length bytes ≡ 42 → ⊥
       by false e d = eqb-false (length bytes) 42 e
-      by true e d = absurd (let z : ◌≡◌ {A = ℕ} 0 26 = ap (λ (o : Option ℕ). get_or o 0) d in let f : ⊥ = omega (arith, z) in f)
+      by true e d = absurd (let z : ◌≡◌ {A = ℕ} 0 26 = ap (λ (o : Option ℕ). unwrap_or o 0) d in let f : ⊥ = omega (arith, z) in f)
 
   pub save_leaves : (m : Machine) → (length bytes ≡ 42 → ⊥) → left_of m bytes ≡ bytes
   save_leaves m n = rw (ne_eqb (length bytes) 42 n)
 
   -- else the bytes are the saved machine
-  pub save_done : (m : Machine) → length bytes ≡ 42 → (save_of bytes ≡ none) × (left_of m bytes ≡ saved_of m)
+  pub save_done : (m : Machine) → length bytes ≡ 42 → (save_of bytes ≡ None) × (left_of m bytes ≡ saved_of m)
   save_done m e = (rw (eq-eqb (length bytes) 42 e), rw (eq-eqb (length bytes) 42 e))

@@ -1,22 +1,20 @@
 // The machine as bytes: saving and loading, in the layout of docs/FORMATS.md.
 #![tactic(auto)]
 
-ghost use Rattle.std.specs.Prelude.{◌≡◌, ◌/◌, ◌≤◌, ◌<◌};
-ghost use Rattle.bits.specs.Bits.{weight};
-ghost use Rattle.bus.specs.Access.{ram_control_of};
+ghost use Rattle.std.specs.Prelude.{◌≡◌, ◌<◌};
 ghost use Rattle.saved.specs.Layout.{arms_of, saved_of, byte_in, word_at, long_at, bool_at, flag_of};
 ghost use Rattle.saved.specs.Layout.{registers_in, port_at, ports_in, timer_in, serial_in, bus_in, machine_in};
 ghost use Rattle.saved.specs.Answers.{told_saved, save_of, left_of, told_loaded, stands_of, ranges_in, load_of};
 
 use arithmetic::Codes;
-use bits::{Flag, byte_of, lower, upper};
+use bits::{Flag, bit, byte_of, lower, upper};
 use bus::Bus;
 use chip::Chip;
 use machine::Machine;
 use ports::{Port, Ports};
 use registers::Registers;
 use serial::Serial;
-use timer::{Timer, TimerRegister};
+use timer::Timer;
 
 // The lent bytes are not as many as a saved machine.
 #[derive(Clone, Copy)]
@@ -31,12 +29,6 @@ pub enum LoadRefusal {
     WrongMachine,
 }
 
-fn bool_byte(b: bool) -> u8
-    ensures { result ≡ weight b 1 }
-{
-    if b { 1 } else { 0 }
-}
-
 // The arms of three flags, in the places of bits 5 to 7.
 fn arms(f5: Flag, f6: Flag, f7: Flag) -> u8
     ensures { result ≡ arms_of f5 f6 f7 }
@@ -46,134 +38,61 @@ fn arms(f5: Flag, f6: Flag, f7: Flag) -> u8
     )
 }
 
-// Bytes 2 to 13: the processor and its two lines.
-fn registers_byte(m: Machine, k: usize) -> u8
-    requires { (2 ≤ k) × (k < 14) }
-    ensures { result ≡ byte_in (saved_of m) k }
+// The machine as bytes.
+#[tactic(auto, unfolding(crate::specs::Layout::saved_of))]
+fn bytes_of(m: Machine) -> [u8; 42]
+    ensures { result ≡ saved_of m }
 {
-    match k {
-        2 => m.chip.registers.a,
-        3 => m.chip.registers.b,
-        4 => lower(m.chip.registers.x),
-        5 => upper(m.chip.registers.x),
-        6 => lower(m.chip.registers.sp),
-        7 => upper(m.chip.registers.sp),
-        8 => lower(m.chip.registers.pc),
-        9 => upper(m.chip.registers.pc),
-        10 => u8::from(m.chip.registers.codes),
-        11 => bool_byte(m.chip.registers.waiting),
-        12 => bool_byte(m.nmi),
-        _ => bool_byte(m.irq1),
-    }
-}
-
-// Bytes 14 to 20: the ports.
-fn port_byte(m: Machine, k: usize) -> u8
-    requires { (14 ≤ k) × (k < 21) }
-    ensures { result ≡ byte_in (saved_of m) k }
-{
-    let p = m.chip.bus.ports;
-    match k {
-        14 => p.port1.direction,
-        15 => p.port1.latch,
-        16 => p.port1.pins,
-        17 => p.port2.direction,
-        18 => p.port2.latch,
-        19 => p.port2.pins,
-        _ => p.mode,
-    }
-}
-
-// Bytes 21 to 28: the timer.
-fn timer_byte(m: Machine, k: usize) -> u8
-    requires { (21 ≤ k) × (k < 29) }
-    ensures { result ≡ byte_in (saved_of m) k }
-{
-    let t = m.chip.bus.timer;
-    match k {
-        21 => t.read(TimerRegister::Tcsr).value,
-        22 => lower(t.counter),
-        23 => upper(t.counter),
-        24 => lower(t.compare),
-        25 => upper(t.compare),
-        26 => lower(t.capture),
-        27 => upper(t.capture),
-        _ => bool_byte(t.level),
-    }
-}
-
-// $14.
-fn ram_control(b: Bus) -> u8
-    ensures { result ≡ ram_control_of b }
-{
-    byte_of(false, false, false, false, false, false, b.rame, b.standby)
-}
-
-// Bytes 29 to 37: the serial interface, the arms, $14 and busy.
-fn serial_byte(m: Machine, k: usize) -> u8
-    requires { (29 ≤ k) × (k < 38) }
-    ensures { result ≡ byte_in (saved_of m) k }
-{
-    let t = m.chip.bus.timer;
-    let s = m.chip.bus.serial;
-    match k {
-        29 => s.rate,
-        30 => s.trcs(),
-        31 => s.received,
-        32 => s.transmit,
-        33 => arms(t.tof, t.ocf, t.icf),
-        34 => arms(s.tdre, s.orfe, s.rdrf),
-        35 => ram_control(m.chip.bus),
-        36 => lower(s.busy),
-        _ => upper(s.busy),
-    }
-}
-
-// The highest byte of a four-byte number.
-fn top_byte(n: u32) -> u8
-    ensures { result ≡ n / 16777216 }
-{
-    (n / 16777216) as u8
-}
-
-// Bytes 38 to 41: R.
-fn start_byte(m: Machine, k: usize) -> u8
-    requires { (38 ≤ k) × (k < 42) }
-    ensures { result ≡ byte_in (saved_of m) k }
-{
-    let r = m.chip.bus.r;
-    match k {
-        38 => (r % 256) as u8,
-        39 => (r / 256 % 256) as u8,
-        40 => (r / 65536 % 256) as u8,
-        _ => top_byte(r),
-    }
-}
-
-// Byte k of the saved machine.
-fn saved_byte(m: Machine, k: usize) -> u8
-    requires { k < 42 }
-    ensures { result ≡ byte_in (saved_of m) k }
-{
-    if k == 0 {
-        return 1;
-    }
-    if k == 1 {
-        return 0;
-    }
-    if k < 14 {
-        return registers_byte(m, k);
-    }
-    if k < 21 {
-        return port_byte(m, k);
-    }
-    if k < 29 {
-        return timer_byte(m, k);
-    }
-    if k < 38 {
-        return serial_byte(m, k);
-    }
-    start_byte(m, k)
+    let c = m.chip.registers;
+    let b = m.chip.bus;
+    let p = b.ports;
+    let t = b.timer;
+    let s = b.serial;
+    let [r0, r1, r2, r3] = b.r.to_le_bytes();
+    [
+        1,
+        0,
+        c.a,
+        c.b,
+        lower(c.x),
+        upper(c.x),
+        lower(c.sp),
+        upper(c.sp),
+        lower(c.pc),
+        upper(c.pc),
+        u8::from(c.codes),
+        u8::from(c.waiting),
+        u8::from(m.nmi),
+        u8::from(m.irq1),
+        p.port1.direction,
+        p.port1.latch,
+        p.port1.pins,
+        p.port2.direction,
+        p.port2.latch,
+        p.port2.pins,
+        p.mode,
+        t.tcsr(),
+        lower(t.counter),
+        upper(t.counter),
+        lower(t.compare),
+        upper(t.compare),
+        lower(t.capture),
+        upper(t.capture),
+        u8::from(t.level),
+        s.rate,
+        s.trcs(),
+        s.received,
+        s.transmit,
+        arms(t.tof, t.ocf, t.icf),
+        arms(s.tdre, s.orfe, s.rdrf),
+        b.ram_control(),
+        lower(s.busy),
+        upper(s.busy),
+        r0,
+        r1,
+        r2,
+        r3,
+    ]
 }
 
 // The machine as 42 bytes, or a refusal of lent bytes that are not 42, which leaves them.
@@ -184,11 +103,7 @@ pub fn save(m: Machine, bytes: &mut [u8]) -> Result<(), WrongLength>
     if bytes.len() != 42 {
         return Err(WrongLength);
     }
-    let mut k = 0;
-    while k < 42 {
-        bytes[k] = saved_byte(m, k);
-        k = k + 1;
-    }
+    bytes.copy_from_slice(&bytes_of(m));
     Ok(())
 }
 
@@ -225,8 +140,8 @@ fn flag_of(register: u8, arms: u8, w: u8) -> Flag
     ensures { result ≡ flag_of register arms w }
 {
     Flag {
-        set: register / w % 2 == 1,
-        armed: arms / w % 2 == 1,
+        set: bit(register, w),
+        armed: bit(arms, w),
     }
 }
 
@@ -272,11 +187,11 @@ fn timer_in(bytes: &[u8]) -> Timer
     let tcsr = byte_in(bytes, 21);
     let arms = byte_in(bytes, 33);
     Timer {
-        olvl: tcsr / 1 % 2 == 1,
-        iedg: tcsr / 2 % 2 == 1,
-        etoi: tcsr / 4 % 2 == 1,
-        eoci: tcsr / 8 % 2 == 1,
-        eici: tcsr / 16 % 2 == 1,
+        olvl: bit(tcsr, 1),
+        iedg: bit(tcsr, 2),
+        etoi: bit(tcsr, 4),
+        eoci: bit(tcsr, 8),
+        eici: bit(tcsr, 16),
         tof: flag_of(tcsr, arms, 32),
         ocf: flag_of(tcsr, arms, 64),
         icf: flag_of(tcsr, arms, 128),
@@ -293,11 +208,11 @@ fn serial_in(bytes: &[u8]) -> Serial
     let trcs = byte_in(bytes, 30);
     let arms = byte_in(bytes, 34);
     Serial {
-        wu: trcs / 1 % 2 == 1,
-        te: trcs / 2 % 2 == 1,
-        tie: trcs / 4 % 2 == 1,
-        re: trcs / 8 % 2 == 1,
-        rie: trcs / 16 % 2 == 1,
+        wu: bit(trcs, 1),
+        te: bit(trcs, 2),
+        tie: bit(trcs, 4),
+        re: bit(trcs, 8),
+        rie: bit(trcs, 16),
         tdre: flag_of(trcs, arms, 32),
         orfe: flag_of(trcs, arms, 64),
         rdrf: flag_of(trcs, arms, 128),
@@ -316,30 +231,29 @@ fn bus_in(bytes: &[u8]) -> Bus
         ports: ports_in(bytes),
         timer: timer_in(bytes),
         serial: serial_in(bytes),
-        rame: control / 64 % 2 == 1,
-        standby: control / 128 % 2 == 1,
+        rame: bit(control, 64),
+        standby: bit(control, 128),
         r: long_at(bytes, 38),
     }
 }
 
 // The machine that the bytes stand for.
+#[tactic(auto, unfolding(crate::specs::Layout::machine_in))]
 fn machine_in(bytes: &[u8]) -> Machine
     ensures { result ≡ machine_in bytes.now }
 {
-    let registers = registers_in(bytes);
-    let bus = bus_in(bytes);
-    let chip = Chip {
-        registers: registers,
-        bus: bus,
-    };
     Machine {
-        chip: chip,
+        chip: Chip {
+            registers: registers_in(bytes),
+            bus: bus_in(bytes),
+        },
         irq1: bool_at(bytes, 13),
         nmi: bool_at(bytes, 12),
     }
 }
 
 // Whether every yes or no is 0 or 1, and the arms are those of flags.
+#[tactic(auto, unfolding(crate::specs::Answers::stands_of))]
 fn stands(bytes: &[u8]) -> bool
     ensures { result ≡ stands_of bytes.now }
 {
@@ -352,14 +266,16 @@ fn stands(bytes: &[u8]) -> bool
 }
 
 // Whether the bytes, which stand for this machine, are in the machine's ranges.
+#[tactic(auto, unfolding(crate::specs::Answers::ranges_in))]
 fn in_ranges(bytes: &[u8], m: Machine) -> bool
     ensures { result ≡ ranges_in bytes.now m }
 {
     let codes = byte_in(bytes, 10);
-    (codes / 128 % 2 == 1) & (codes / 64 % 2 == 1) & (byte_in(bytes, 35) % 64 == 0) & m.in_ranges()
+    bit(codes, 128) & bit(codes, 64) & (byte_in(bytes, 35) % 64 == 0) & m.in_ranges()
 }
 
 // The machine that was saved as these bytes, or a refusal.
+#[tactic(auto, unfolding(crate::specs::Answers::load_of))]
 pub fn load(bytes: &[u8]) -> Result<Machine, LoadRefusal>
     ensures { told_loaded result ≡ load_of bytes.now }
 {

@@ -7,9 +7,9 @@ use Rattle.chip.proofs.Core.locate.Goals as goal
 pub returns-in-Inherent : goal.returns-in-Inherent
 unfolding operand
 returns-in-Inherent c = elim c.in-Inherent.is [
-    inl e ↦ rw e (ends _ _ _ refl)
-    | inr (inl e) ↦ rw e (ends _ _ _ refl)
-    | inr (inr e) ↦ rw e (ends _ _ _ refl)
+  | inl e ↦ rw e (ends _ _ _ refl)
+  | inr (inl e) ↦ rw e (ends _ _ _ refl)
+  | inr (inr e) ↦ rw e (ends _ _ _ refl)
 ]
 
 pub returns-in-ImmediateByte : goal.returns-in-ImmediateByte
