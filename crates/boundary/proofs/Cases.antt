@@ -1,5 +1,5 @@
 -- The ways that a boundary can go, each as a law, in the code's order. Assumes nothing.
-use Rattle.std.specs.Prelude.{Option, None, Some}
+use Rattle.std.specs.Prelude.{Option, None, Some, is_some}
 use Rattle.std.proofs.Common.{◌≡◌, ℕ, ◌<◌, ◌≤◌, Bool, true, false, cond, not, ◌&&◌, List, length, sym, refl, ap, ◌∙◌, subst, ⊎_elim, true≢false, arith, le-leb}
 use mathlib.Core.Bool.{false≢true}
 use borrow.Author.Tests.{lt-leb, not-false}
@@ -145,10 +145,10 @@ module _ (logs : Bool) (s : State) (log : List ℕ) where
   pub lacks_fitting : fits_row log s.entries.0 ≡ true → Lacks false
   lacks_fitting f = ((λ e. absurd (false≢true e)), λ _ cause e. ap (λ (b : Bool). logs && not b) f ∙ and_false logs)
 
-  pub lacks_nothing : pending_of s.machine ≡ None → Lacks false
+  lacks_nothing : pending_of s.machine ≡ None → Lacks false
   lacks_nothing n = ((λ e. absurd (false≢true e)), λ _ cause e. let z : ◌≡◌ {A = Option Cause} None (Some cause) = sym n ∙ e in apart cc)
 
-  pub lacks_due : {cause : Cause} → logs ≡ true → fits_row log s.entries.0 ≡ false → pending_of s.machine ≡ Some cause → Lacks true
+  lacks_due : {cause : Cause} → logs ≡ true → fits_row log s.entries.0 ≡ false → pending_of s.machine ≡ Some cause → Lacks true
   lacks_due {cause} a f d = (
     (λ _ since i area o.
         let l = lending i area o log in
@@ -156,6 +156,14 @@ module _ (logs : Bool) (s : State) (log : List ℕ) where
         act_accepts s l watch d ∙ accept_stops s l watch cause (ap (λ (b : Bool). b && not (fits_row log s.entries.0)) a ∙ ap not f)),
     (λ e. absurd (true≢false e)),
   )
+
+  -- where it is asked for and has no room
+  pub lacks_asked : {due : Bool} → logs ≡ true → fits_row log s.entries.0 ≡ false → due ≡ is_some (pending_of s.machine) → Lacks due
+  lacks_asked {due} a f e = by (pending_of s.machine) refl
+    where
+      by : (p : Option Cause) → pending_of s.machine ≡ p → Lacks due
+      by None q = subst Lacks (sym (e ∙ ap is_some q)) (lacks_nothing q)
+      by (Some cause) q = subst Lacks (sym (e ∙ ap is_some q)) (lacks_due a f q)
 
 -- step 5, by k leaps more
 pub wait_law : (s : State) {r : State} {m : Machine} (k : ℕ) → cond s.inside 0 1 ≡ k

@@ -11,7 +11,6 @@ ghost use Rattle.bus.specs.Access.{memories};
 
 use counts::{Cycles, Entries, Instructions, Leaps, Records, Sent};
 use machine::{Cause, Machine};
-use std::num::wrapping_add_u32;
 use wake_log::Row;
 
 // A run's state: `place` is where the first unused record stands, `inside` tells that the boundary before was a waiting cycle.
@@ -36,6 +35,14 @@ pub struct Grown {
     pub entries: Entries,
     pub leaps: Leaps,
 }
+
+// No count has grown.
+pub const UNGROWN: Grown = Grown {
+    cycles: Cycles(0),
+    instructions: Instructions(0),
+    entries: Entries(0),
+    leaps: Leaps(0),
+};
 
 // What is watched: with `log` each interrupt entry is logged. `since` are the cycles that had passed before the run; they are added to a row's count.
 #[derive(Clone, Copy)]
@@ -74,8 +81,8 @@ impl Watch {
         ensures { result ≡ later self cycles.0 }
     {
         Watch {
-            log: self.log,
-            since: Cycles(wrapping_add_u32(self.since.0, cycles.0)),
+            since: Cycles(self.since.0.wrapping_add(cycles.0)),
+            ..self
         }
     }
 
@@ -84,52 +91,46 @@ impl Watch {
         ensures { result ≡ logged_bytes self entries.0 }
     {
         if self.log {
-            return 8 * (entries.0 as usize);
+            8 * (entries.0 as usize)
+        } else {
+            0
         }
-        0
     }
 }
 
 impl State {
-    // The machine is m, and the counts have grown.
-    pub fn moved(self, m: Machine, by: Grown, inside: bool) -> State
+    // The machine is another, and the counts have grown.
+    pub fn moved(self, machine: Machine, by: Grown, inside: bool) -> State
         requires { Fits self by }
-        ensures { result ≡ grown_to self m by inside }
+        ensures { result ≡ grown_to self machine by inside }
     {
-        let cycles = Cycles(self.cycles.0 + by.cycles.0);
-        let instructions = Instructions(self.instructions.0 + by.instructions.0);
-        let entries = Entries(self.entries.0 + by.entries.0);
-        let leaps = Leaps(self.leaps.0 + by.leaps.0);
-        let used = self.used;
-        let sent = self.sent;
         State {
-            machine: m,
-            place: self.place,
-            used: used,
-            cycles: cycles,
-            instructions: instructions,
-            entries: entries,
-            sent: sent,
-            leaps: leaps,
-            inside: inside,
+            machine,
+            cycles: Cycles(self.cycles.0 + by.cycles.0),
+            instructions: Instructions(self.instructions.0 + by.instructions.0),
+            entries: Entries(self.entries.0 + by.entries.0),
+            leaps: Leaps(self.leaps.0 + by.leaps.0),
+            inside,
+            ..self
         }
     }
 
     // The record at its place is applied.
-    fn take(mut self, session: &[u8], image: &[u8], area: &[u8]) -> State
+    #[tactic(auto, unfolding(crate::specs::Boundary::record_taken))]
+    fn take(self, session: &[u8], image: &[u8], area: &[u8]) -> State
         requires { (self.place < length session.now) × (self.used.0 ≤ self.place) }
         ensures { result ≡ record_taken session.now (memories image.now area.now) self }
     {
         let at = self.place;
-        let m = self
-            .machine
-            .apply(session::event_at(session, at), image, area);
-        self.machine = m;
-        self.place = session::next_at(session, at);
-        let used = Records(self.used.0 + 1);
-        self.used = used;
-        self.inside = false;
-        self
+        State {
+            machine: self
+                .machine
+                .apply(session::event_at(session, at), image, area),
+            place: session::next_at(session, at),
+            used: Records(self.used.0 + 1),
+            inside: false,
+            ..self
+        }
     }
 
     // Step 2.
@@ -145,16 +146,17 @@ impl State {
     }
 
     // A byte was sent.
-    fn after_sending(mut self) -> State
+    #[tactic(auto, unfolding(crate::specs::Boundary::sent_state))]
+    fn after_sending(self) -> State
         requires { self.sent.0 + 1 < 2 ^ 64 }
         ensures { result ≡ sent_state self }
     {
-        let m = self.machine.send();
-        self.machine = m;
-        let sent = Sent(self.sent.0 + 1);
-        self.sent = sent;
-        self.inside = false;
-        self
+        State {
+            machine: self.machine.send(),
+            sent: Sent(self.sent.0 + 1),
+            inside: false,
+            ..self
+        }
     }
 
     // An interrupt is entered.
@@ -164,12 +166,10 @@ impl State {
             ≡ entered_world cause (world_of self (with_memories l (memories image.old area.old))) }
     {
         let e = self.machine.enter(cause, image, area);
-        let cycles = e.cycles;
         let by = Grown {
-            cycles: cycles,
-            instructions: Instructions(0),
+            cycles: e.cycles,
             entries: Entries(1),
-            leaps: Leaps(0),
+            ..UNGROWN
         };
         self.moved(e.machine, by, false)
     }
@@ -179,7 +179,7 @@ impl State {
         ensures { result ≡ row_of watch cause self }
     {
         Row {
-            cycle: wrapping_add_u32(watch.since.0, self.cycles.0),
+            cycle: watch.since.0.wrapping_add(self.cycles.0),
             cause: machine::cause_number(cause),
             behind: self.machine.behind(cause),
         }
@@ -189,17 +189,7 @@ impl State {
     fn lacks_row(self, logs: bool, log: &[u8]) -> bool
         ensures { (result ≡ true → Refuses logs self log.now) × (result ≡ false → Accepts logs self log.now) }
     {
-        if !logs {
-            return false;
-        }
-        if wake_log::fits_row(log, self.entries.0) {
-            return false;
-        }
-        let p = self.machine.pending();
-        match p {
-            Some(_) => true,
-            None => false,
-        }
+        logs && !wake_log::fits_row(log, self.entries.0) && self.machine.pending().is_some()
     }
 
     // An entry is logged, where that is asked for.
@@ -233,19 +223,17 @@ impl State {
     }
 
     // Step 5.
+    #[tactic(auto, unfolding(crate::specs::Boundary::waited_state))]
     fn wait(self) -> State
         requires { Ready self }
         ensures { result ≡ waited_state self }
     {
-        let m = self.machine.pass(Cycles(1));
-        let leaps = if self.inside { 0 } else { 1 };
         let by = Grown {
             cycles: Cycles(1),
-            instructions: Instructions(0),
-            entries: Entries(0),
-            leaps: Leaps(leaps),
+            leaps: Leaps(if self.inside { 0 } else { 1 }),
+            ..UNGROWN
         };
-        self.moved(m, by, true)
+        self.moved(self.machine.pass(Cycles(1)), by, true)
     }
 
     // Step 6.
@@ -255,32 +243,26 @@ impl State {
             ≡ executed_of (look_of (memories image.old area.old) self.machine)
             (world_of self (with_memories l (memories image.old area.old))) }
     {
-        let look = self.machine.look(image, area);
-        match look {
-            None => Turned {
+        let Some(i) = self.machine.look(image, area) else {
+            return Turned {
                 state: self,
                 stop: Some(Stop::Undefined),
-            },
-            Some(i) => {
-                let e = self.machine.step(i, image, area);
-                let cycles = e.cycles;
-                let by = Grown {
-                    cycles: cycles,
-                    instructions: Instructions(1),
-                    entries: Entries(0),
-                    leaps: Leaps(0),
-                };
-                Turned {
-                    state: self.moved(e.machine, by, false),
-                    stop: None,
-                }
-            }
+            };
+        };
+        let e = self.machine.step(i, image, area);
+        let by = Grown {
+            cycles: e.cycles,
+            instructions: Instructions(1),
+            ..UNGROWN
+        };
+        Turned {
+            state: self.moved(e.machine, by, false),
+            stop: None,
         }
     }
 
-    // Steps 4 to 6, where there is room. What is watched comes in its parts, and the room is tested before: both keep every other boundary as cheap as
-    // without a log.
-    fn act(
+    // Steps 4 to 6, where there is room.
+    fn act_with_room(
         self,
         logs: bool,
         since: Cycles,
@@ -289,28 +271,42 @@ impl State {
         log: &mut [u8],
     ) -> Turned
         requires { Ready self × Accepts logs self log.old }
-        ensures { (o : List ℕ) → turned result (lending image.new area.new o log.exit.now)
-            ≡ act_of (record { log = logs; since = since }) (world_of self (lending image.old area.old o log.entry.now)) }
+        ensures { (o : List ℕ) → turned result (lending image.new area.new o log.new)
+            ≡ act_of (record { log = logs; since = since }) (world_of self (lending image.old area.old o log.old)) }
     {
-        let p = self.machine.pending();
-        match p {
-            Some(cause) => {
-                let watch = Watch {
-                    log: logs,
-                    since: since,
-                };
-                self.accept(watch, cause, image, area, log)
-            }
-            None => {
-                if self.machine.chip.registers.idles() {
-                    return Turned {
-                        state: self.wait(),
-                        stop: None,
-                    };
-                }
-                self.step(image, area)
-            }
+        if let Some(cause) = self.machine.pending() {
+            let watch = Watch { log: logs, since };
+            return self.accept(watch, cause, image, area, log);
         }
+        if self.machine.chip.registers.idles() {
+            return Turned {
+                state: self.wait(),
+                stop: None,
+            };
+        }
+        self.step(image, area)
+    }
+
+    // Steps 4 to 6. What is watched comes in its parts, and the room is tested before: both keep every other boundary as cheap as without a log.
+    fn act(
+        self,
+        logs: bool,
+        since: Cycles,
+        image: &mut [u8],
+        area: &mut [u8],
+        log: &mut [u8],
+    ) -> Turned
+        requires { Ready self }
+        ensures { (o : List ℕ) → turned result (lending image.new area.new o log.new)
+            ≡ act_of (record { log = logs; since = since }) (world_of self (lending image.old area.old o log.old)) }
+    {
+        if self.lacks_row(logs, &log[..]) {
+            return Turned {
+                state: self,
+                stop: Some(Stop::LogFull),
+            };
+        }
+        self.act_with_room(logs, since, image, area, log)
     }
 
     // Steps 3 to 6.
@@ -324,9 +320,9 @@ impl State {
         log: &mut [u8],
     ) -> Turned
         requires { Ready self }
-        ensures { turned result (lending image.new area.new output.new log.exit.now)
+        ensures { turned result (lending image.new area.new output.new log.new)
             ≡ send_of (record { log = logs; since = since })
-            (world_of self (lending image.old area.old output.old log.entry.now)) }
+            (world_of self (lending image.old area.old output.old log.old)) }
     {
         if self.machine.chip.bus.serial.wants_to_send() {
             let at = self.sent.0;
@@ -338,22 +334,9 @@ impl State {
             }
             output[at] = self.machine.chip.bus.serial.transmit;
             let sent = self.after_sending();
-            if sent.lacks_row(logs, &log[..]) {
-                return Turned {
-                    state: sent,
-                    stop: Some(Stop::LogFull),
-                };
-            }
             return sent.act(logs, since, image, area, log);
         }
-        let rested = self;
-        if rested.lacks_row(logs, &log[..]) {
-            return Turned {
-                state: rested,
-                stop: Some(Stop::LogFull),
-            };
-        }
-        rested.act(logs, since, image, area, log)
+        self.act(logs, since, image, area, log)
     }
 
     // One boundary.
@@ -378,8 +361,7 @@ impl State {
                 stop: Some(Stop::Limit),
             };
         }
-        let since = watch.since;
         self.apply_records(session, image, area)
-            .send(watch.log, since, image, area, output, log)
+            .send(watch.log, watch.since, image, area, output, log)
     }
 }

@@ -41,11 +41,11 @@ struct Ending {
 }
 
 // A machine with all counts 0, at the session's front.
-fn start(m: Machine) -> State
-    ensures { result ≡ start_of m }
+fn start(machine: Machine) -> State
+    ensures { result ≡ start_of machine }
 {
     State {
-        machine: m,
+        machine,
         place: 0,
         used: Records(0),
         cycles: Cycles(0),
@@ -62,19 +62,16 @@ fn admit(image: &[u8], area: &[u8], m: Machine, session: &[u8], n: u32) -> Resul
     ensures { (watch : Watch) (l : Lent) → told_admission result
         ≡ refusal_of (watching session.now n watch) m (with_memories l (memories image.now area.now)) }
 {
-    let wrong_area = area.len() != 128;
-    let wrong_machine = !m.in_ranges();
-    let wrong_limit = n > 1000000000;
     if image.len() != 65536 {
         return Err(Reply::WrongImage);
     }
-    if wrong_area {
+    if area.len() != 128 {
         return Err(Reply::WrongArea);
     }
-    if wrong_machine {
+    if !m.in_ranges() {
         return Err(Reply::WrongMachine);
     }
-    if wrong_limit {
+    if n > 1000000000 {
         return Err(Reply::WrongLimit);
     }
     session::check(session)?;
@@ -167,10 +164,9 @@ pub fn watch_either(
         ≡ leaps_of (watching session.now n watch) m (lending image.old area.old output.old log.old)) }
 {
     let e = end(leaping, image, area, m, session, n, watch, output, log);
-    let leaps = e.state.leaps.0;
     Leapt {
         ran: e.report(),
-        leaps: Leaps(leaps),
+        leaps: e.state.leaps,
     }
 }
 
@@ -188,8 +184,7 @@ pub fn watch_single(
     ensures { answered result (lending image.new area.new output.new log.new)
         ≡ answer_of (watching session.now n watch) m (lending image.old area.old output.old log.old) }
 {
-    let leapt = watch_either(false, image, area, m, session, n, watch, output, log);
-    leapt.ran
+    watch_either(false, image, area, m, session, n, watch, output, log).ran
 }
 
 // The leaping run, watched: the same answer, and how many leaps there were.
@@ -251,8 +246,7 @@ pub fn run_single(
     ensures { answered result (lent image.new area.new output.new)
         ≡ answer_of (terms session.now n) m (lent image.old area.old output.old) }
 {
-    let leapt = run_either(false, image, area, m, session, n, output);
-    leapt.ran
+    run_either(false, image, area, m, session, n, output).ran
 }
 
 // The leaping run: the same answer, and how many leaps there were.

@@ -15,9 +15,9 @@ ghost use Rattle.boundary.specs.Boundary.{run_of};
 ghost use Rattle.boundary.specs.Counts.{Fine, Fits};
 ghost use Rattle.run.specs.Leaps.{is_due, First, stirs, AfterLeap, strode_of, Paced};
 
-use boundary::{Grown, State, Stop, Watch};
+use boundary::{Grown, State, Stop, UNGROWN, Watch};
 use chip::Chip;
-use counts::{Cycles, Entries, Instructions, Leaps};
+use counts::{Cycles, Instructions};
 use machine::Machine;
 use registers::Registers;
 use serial::Serial;
@@ -33,7 +33,7 @@ pub struct Outcome {
 fn least(a: u32, b: u32) -> u32
     ensures { First a result (λ j. leb b j) }
 {
-    if a <= b { a } else { b }
+    a.min(b)
 }
 
 // Cycles until a record is due, at most `most`.
@@ -44,10 +44,7 @@ fn record_room(most: u32, session: &[u8], count: Cycles, at: usize) -> u32
         return most;
     }
     let time = session::time_at(session, at);
-    if time <= count.0 {
-        return 0;
-    }
-    least(most, time - count.0)
+    least(most, time.saturating_sub(count.0))
 }
 
 // Cycles until a byte is to be sent, at most `most`.
@@ -55,9 +52,10 @@ fn send_room(most: u32, s: Serial) -> u32
     ensures { First most result (λ j. wants_to_send (ticks_serial j s)) }
 {
     if s.te & !s.tdre.set {
-        return least(most, s.busy as u32);
+        least(most, u32::from(s.busy))
+    } else {
+        most
     }
-    most
 }
 
 // Cycles until an enabled flag is set that comes after d cycles, at most `most`.
@@ -121,14 +119,11 @@ fn leap(session: &[u8], n: u32, s: State) -> State
         return s;
     }
     let k = room(session, n, s);
-    let m = s.machine.pass(Cycles(k));
     let by = Grown {
         cycles: Cycles(k),
-        instructions: Instructions(0),
-        entries: Entries(0),
-        leaps: Leaps(0),
+        ..UNGROWN
     };
-    s.moved(m, by, true)
+    s.moved(s.machine.pass(Cycles(k)), by, true)
 }
 
 // The state after so many instructions and cycles that left the bus alone.
@@ -136,25 +131,17 @@ fn strode(s: State, c: Registers, cycles: Cycles, instructions: Instructions) ->
     requires { Fits s (grown cycles.0 instructions.0 0 0) }
     ensures { result ≡ strode_of s c cycles.0 instructions.0 }
 {
-    let m = s.machine;
-    let bus = m.chip.bus.pass(cycles.0);
     let chip = Chip {
         registers: c,
-        bus: bus,
+        bus: s.machine.chip.bus.pass(cycles.0),
     };
-    let next = Machine {
-        chip: chip,
-        irq1: m.irq1,
-        nmi: m.nmi,
-    };
-    let inside = s.inside & (instructions.0 == 0);
+    let next = Machine { chip, ..s.machine };
     let by = Grown {
-        cycles: cycles,
-        instructions: instructions,
-        entries: Entries(0),
-        leaps: Leaps(0),
+        cycles,
+        instructions,
+        ..UNGROWN
     };
-    s.moved(next, by, inside)
+    s.moved(next, by, s.inside & (instructions.0 == 0))
 }
 
 // Plain instructions one after the other, as long as nothing else stirs: the run goes on the same, from where they end.
@@ -178,17 +165,12 @@ fn stride(session: &[u8], n: u32, s: State, image: &mut [u8]) -> State
         if (room <= cycles) | c.idles() | (c.codes.i != masked) {
             return strode(s, c, Cycles(cycles), Instructions(instructions));
         }
-        let h = plain::step(c, floor, start, image);
-        match h {
-            Some(hop) => {
-                c = hop.registers;
-                cycles += hop.cycles.0;
-                instructions += 1;
-            }
-            None => {
-                return strode(s, c, Cycles(cycles), Instructions(instructions));
-            }
-        }
+        let Some(hop) = plain::step(c, floor, start, image) else {
+            return strode(s, c, Cycles(cycles), Instructions(instructions));
+        };
+        c = hop.registers;
+        cycles += hop.cycles.0;
+        instructions += 1;
     }
 }
 

@@ -10,30 +10,30 @@ pub returns-then-image-ne65536 : goal.returns-then-image-ne65536
 returns-then-image-ne65536 c = λ watch l. let a = c.args in
     sym (refuses_1 (watching a.session.now a.n watch) a.m (with_memories l (memories a.image.now a.area.now)) c.if-image-ne65536.true)
 
-pub returns-then-wrong_area : goal.returns-then-wrong_area
-returns-then-wrong_area c = λ watch l. let a = c.args in
+pub returns-then-area-ne128 : goal.returns-then-area-ne128
+returns-then-area-ne128 c = λ watch l. let a = c.args in
     sym
     (refuses_12 (watching a.session.now a.n watch) a.m (with_memories l (memories a.image.now a.area.now)) c.if-image-ne65536.false
-    c.if-wrong_area.true)
+    c.if-area-ne128.true)
 
-pub returns-then-wrong_machine : goal.returns-then-wrong_machine
-returns-then-wrong_machine c = λ watch l. let a = c.args in
+pub returns-then-not-in_ranges : goal.returns-then-not-in_ranges
+returns-then-not-in_ranges c = λ watch l. let a = c.args in
     sym
     (refuses_2 (watching a.session.now a.n watch) a.m (with_memories l (memories a.image.now a.area.now)) (
       c.if-image-ne65536.false,
-      c.if-wrong_area.false,
+      c.if-area-ne128.false,
     )
-    (sym c.in_ranges-wrong_machine.ensures ∙ c.if-wrong_machine.true))
+    (sym c.in_ranges.ensures ∙ c.if-not-in_ranges.true))
 
-pub returns-then-wrong_limit : goal.returns-then-wrong_limit
-returns-then-wrong_limit c = λ watch l. let a = c.args in
+pub returns-then-n-gt1000000000 : goal.returns-then-n-gt1000000000
+returns-then-n-gt1000000000 c = λ watch l. let a = c.args in
     sym
     (refuses_3 (watching a.session.now a.n watch) a.m (with_memories l (memories a.image.now a.area.now)) (
       c.if-image-ne65536.false,
-      c.if-wrong_area.false,
+      c.if-area-ne128.false,
     )
-    (sym c.in_ranges-wrong_machine.ensures ∙ c.if-wrong_machine.false)
-    c.if-wrong_limit.true)
+    (sym c.in_ranges.ensures ∙ c.if-not-in_ranges.false)
+    c.if-n-gt1000000000.true)
 
 pub returns : goal.returns
 returns c = λ watch l. let a = c.args in
@@ -42,7 +42,7 @@ returns c = λ watch l. let a = c.args in
     ∙ sym
     (session_decides (watching a.session.now a.n watch) a.m (with_memories l (memories a.image.now a.area.now)) (
       c.if-image-ne65536.false,
-      c.if-wrong_area.false,
+      c.if-area-ne128.false,
     )
-    (sym c.in_ranges-wrong_machine.ensures ∙ c.if-wrong_machine.false)
-    c.if-wrong_limit.false)
+    (sym c.in_ranges.ensures ∙ c.if-not-in_ranges.false)
+    c.if-n-gt1000000000.false)

@@ -9,19 +9,19 @@ use Rattle.cabinet.proofs.end.Goals as goal
 pub run-outcome-requires : goal.run-outcome-requires
 run-outcome-requires c = let a = c.args in
     let l = lending a.image.now a.area.now a.output.now a.log.now in
-    let e = c.admit-admission.ensures a.watch l in
-    let h = admitted_within (watching a.session.now a.n a.watch) a.m l (sym e ∙ ap told_admission c.in-Admitted.is) in
+    let e = c.admit.ensures a.watch l in
+    let h = admitted_within (watching a.session.now a.n a.watch) a.m l (sym e ∙ ap told_admission c.in-Ok.is) in
     (start_fine a.m c.start-start.ensures, omega (arith, h))
 
-pub returns-in-Refused : goal.returns-in-Refused
-returns-in-Refused c = let a = c.args in
+pub returns-in-Err : goal.returns-in-Err
+returns-in-Err c = let a = c.args in
     let l = lending a.image.now a.area.now a.output.now a.log.now in
     refusal_ends (watching a.session.now a.n a.watch) a.m l
-    (c.admit-admission.ensures a.watch l) c.start-start.ensures c.in-Refused.is
+    (c.admit.ensures a.watch l) c.start-start.ensures c.in-Err.is
 
-pub returns-in-Admitted : goal.returns-in-Admitted
-returns-in-Admitted c = let a = c.args in
+pub returns : goal.returns
+returns c = let a = c.args in
     let l = lending a.image.now a.area.now a.output.now a.log.now in
     run_ends (watching a.session.now a.n a.watch) a.m l
-    (c.admit-admission.ensures a.watch l) c.start-start.ensures
-    c.stopped.result c.run-outcome.result.stop c.in-Admitted.is c.run-outcome.ensures c.stopped.ensures
+    (c.admit.ensures a.watch l) c.start-start.ensures
+    c.stopped.result c.run-outcome.result.stop c.in-Ok.is c.run-outcome.ensures c.stopped.ensures

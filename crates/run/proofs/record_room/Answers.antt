@@ -1,20 +1,11 @@
 use Rattle.laws.proofs.Orders.{leb_shifted}
-use Rattle.run.proofs.Rooms.{first_now, first_never, first_same}
+use Rattle.run.proofs.Rooms.{first_never, first_same}
 use Rattle.run.proofs.Waiting.{no_record, a_record}
-use Prim.Native.Nat.{◌+◌}
 use mathlib.Core.Path.{◌∙◌}
-use native.Mathlib.Omega.{arith}
-use borrow.Author.Tests.{le-leb}
 use Rattle.run.proofs.record_room.Goals as goal
 
 pub returns-then-session-at : goal.returns-then-session-at
 returns-then-session-at c = let a = c.args in first_never _ _ (no_record a.session.now a.count.0 a.at c.if-session-at.true)
-
-pub returns-then-time-count : goal.returns-then-time-count
-returns-then-time-count c = let a = c.args in
-    first_now _ _
-    (a_record a.session.now a.count.0 a.at c.if-session-at.false 0
-    ∙ rw (← c.time_at-time.ensures) (le-leb c.time_at-time.result (a.count.0 + 0) (omega arith)))
 
 pub returns : goal.returns
 returns c = let a = c.args in

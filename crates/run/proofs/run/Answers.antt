@@ -16,7 +16,7 @@ pace-s-requires c =
     let asked = watching a.session.now a.n a.watch in
     let here = world_of l.s (lending l.image l.area l.output l.log) in
     let there = world_of b.result.state (lending b.new.image b.new.area b.new.output b.new.log) in
-    let went : boundary_of asked here ≡ more there = sym b.ensures ∙ ap (λ (p : Option Stop). stop_turn p there) c.in-Going.is in
+    let went : boundary_of asked here ≡ more there = sym b.ensures ∙ ap (λ (p : Option Stop). stop_turn p there) c.in-None.is in
     (run_fine asked here _ l.invariant.0 went, c.requires.1)
 
 pub loop-image-smaller : goal.loop-image-smaller
@@ -27,7 +27,7 @@ loop-image-smaller c =
     let asked = watching a.session.now a.n a.watch in
     let here = world_of l.s (lending l.image l.area l.output l.log) in
     let there = world_of b.result.state (lending b.new.image b.new.area b.new.output b.new.log) in
-    let went : boundary_of asked here ≡ more there = sym b.ensures ∙ ap (λ (p : Option Stop). stop_turn p there) c.in-Going.is in
+    let went : boundary_of asked here ≡ more there = sym b.ensures ∙ ap (λ (p : Option Stop). stop_turn p there) c.in-None.is in
     let f = run_falls asked here _ went in
     let g = (c.pace-s.ensures a.watch).1 in
     omega arith
@@ -40,7 +40,7 @@ loop-image-preserved c =
     let asked = watching a.session.now a.n a.watch in
     let here = world_of l.s (lending l.image l.area l.output l.log) in
     let there = world_of b.result.state (lending b.new.image b.new.area b.new.output b.new.log) in
-    let went : boundary_of asked here ≡ more there = sym b.ensures ∙ ap (λ (p : Option Stop). stop_turn p there) c.in-Going.is in
+    let went : boundary_of asked here ≡ more there = sym b.ensures ∙ ap (λ (p : Option Stop). stop_turn p there) c.in-None.is in
     let v = l.invariant in
     let p = c.pace-s in
     let e = p.ensures a.watch in (
@@ -52,13 +52,13 @@ loop-image-preserved c =
       b.auto.log ∙ v.5,
     )
 
-pub returns-in-Stopped : goal.returns-in-Stopped
-returns-in-Stopped c =
+pub returns-in-Some : goal.returns-in-Some
+returns-in-Some c =
     let b = c.boundary-t in
     let l = c.loop-image in
     let a = c.args in
     let asked = watching a.session.now a.n a.watch in
     let here = world_of l.s (lending l.image l.area l.output l.log) in
     let there = world_of b.result.state (lending b.new.image b.new.area b.new.output b.new.log) in
-    let stopped = sym b.ensures ∙ ap (λ (p : Option Stop). stop_turn p there) c.in-Stopped.is in
+    let stopped = sym b.ensures ∙ ap (λ (p : Option Stop). stop_turn p there) c.in-Some.is in
     sym (l.invariant.1 ∙ run_done asked here stopped)

@@ -10,5 +10,5 @@ pub returns-then-s : goal.returns-then-s
 returns-then-s c = let s = c.args.s in
     first_same (λ j. sends_later j s ∙ ap (λ (t : Bool). t && eqb (s.busy - j) 0) c.if-s.true ∙ free s.busy j) c.least.ensures
 
-pub returns : goal.returns
-returns c = let s = c.args.s in first_never _ _ (λ j. sends_later j s ∙ ap (λ (t : Bool). t && eqb (s.busy - j) 0) c.if-s.false)
+pub returns-else-s : goal.returns-else-s
+returns-else-s c = let s = c.args.s in first_never _ _ (λ j. sends_later j s ∙ ap (λ (t : Bool). t && eqb (s.busy - j) 0) c.if-s.false)

@@ -1,4 +1,4 @@
--- `State::send` is steps 3 to 6: 9, or the byte; then 11, or the rest. Assumes nothing.
+-- `State::send` is steps 3 to 6: 9, or the byte; then the rest. Assumes nothing.
 use Rattle.std.proofs.Common.{Bool, sym, ap, ◌∙◌}
 use Rattle.counts.specs.declared.Cycles.{Cycles}
 use Rattle.boundary.specs.World.{lending, world_of}
@@ -16,38 +16,17 @@ returns-then-output-at c = let a = c.args in
     let sends = sym c.wants_to_send.ensures ∙ c.if-wants_to_send.true in
     sym (send_full a.self (lending a.image.now a.area.now a.output.now a.log.now) (watch_by a.logs a.since) sends c.if-output-at.true)
 
-pub returns-then-lacks_row : goal.returns-then-lacks_row
-returns-then-lacks_row c = let a = c.args in
-    let o = sent_output a.self a.output.now in
-    let watch = watch_by a.logs a.since in
-    let sends = sym c.wants_to_send.ensures ∙ c.if-wants_to_send.true in
-    sym (c.lacks_row.ensures.0 c.if-lacks_row.true a.since a.image.now a.area.now o)
-    ∙ ap (λ (x : State). act_of watch (world_of x (lending a.image.now a.area.now o a.log.now))) c.after_sending-sent.ensures
-    ∙ sym (send_byte a.self (lending a.image.now a.area.now a.output.now a.log.now) watch sends c.if-output-at.false)
-
 pub act-requires : goal.act-requires
-act-requires c = let h = c.requires in (
-  sent_ready c.after_sending-sent.ensures h,
-  c.lacks_row.ensures.1
-      c.if-lacks_row.false,
-)
+act-requires c = sent_ready c.after_sending-sent.ensures c.requires
 
 pub returns-then-wants_to_send : goal.returns-then-wants_to_send
 returns-then-wants_to_send c = let a = c.args in
     let o = sent_output a.self a.output.now in
     let watch = watch_by a.logs a.since in
-    let sends = sym c.wants_to_send.ensures
-    ∙ c.if-wants_to_send.true in
+    let sends = sym c.wants_to_send.ensures ∙ c.if-wants_to_send.true in
     c.act.ensures o
     ∙ ap (λ (x : State). act_of watch (world_of x (lending a.image.now a.area.now o a.log.now))) c.after_sending-sent.ensures
-    ∙ sym (send_byte a.self (lending a.image.now a.area.now a.output.now a.log.now) watch sends
-    c.if-output-at.false)
-
-pub returns-then-lacks_row-2 : goal.returns-then-lacks_row-2
-returns-then-lacks_row-2 c = let a = c.args in
-    let rests = sym c.wants_to_send.ensures ∙ c.if-wants_to_send.false in
-    sym (c.lacks_row-2.ensures.0 c.if-lacks_row-2.true a.since a.image.now a.area.now a.output.now)
-    ∙ sym (send_rests a.self (lending a.image.now a.area.now a.output.now a.log.now) (watch_by a.logs a.since) rests)
+    ∙ sym (send_byte a.self (lending a.image.now a.area.now a.output.now a.log.now) watch sends c.if-output-at.false)
 
 pub returns : goal.returns
 returns c = let a = c.args in
