@@ -1,14 +1,15 @@
 -- What `wakes` prints: "a line a row, `16384 OCF` or `20000 NMI behind IRQ1 serial`"; or the refusal of a row that no run writes.
-use Rattle.std.specs.Prelude.{ℕ, ◌/◌, ◌%◌, ◌^◌, ◌≤◌, ◌<◌, true, false, cond, List, [], ◌∷◌, ◌++◌, ◌≡◌, eqb, get_or}
+use Rattle.std.specs.Prelude.{ℕ, ◌/◌, ◌%◌, ◌^◌, ◌<◌, true, false, cond, List, [], ◌∷◌, ◌++◌, ◌≡◌, eqb, get_or, Option, Some, None}
 use Rattle.std.proofs.Math.Option.{none}
 use Rattle.printing.specs.Printing.{ascii, decimal_of}
 use Rattle.lines.specs.Lines.{counted, refused_text}
 use Rattle.wake_log.specs.declared.Row.{Row}
 use Rattle.wake_log.specs.Log.{is_row}
 
--- the first of so many rows that no run writes, or their number where a run can have written them all
-abbrev pub FirstBad : List ℕ → ℕ → ℕ → Type 0
-FirstBad log rows r = (r ≤ rows) × ((k : ℕ) → k < r → is_row log k ≡ true) × (r < rows → is_row log r ≡ false)
+-- the first of so many rows that no run writes, or none where a run can have written them all
+abbrev pub FirstBad : List ℕ → ℕ → Option ℕ → Type 0
+FirstBad log rows None = (k : ℕ) → k < rows → is_row log k ≡ true
+FirstBad log rows (Some r) = (r < rows) × ((k : ℕ) → k < r → is_row log k ≡ true) × (is_row log r ≡ false)
 
 -- the six causes, in the order of their numbers, each after a blank
 abbrev pub cause_names : List (List ℕ)

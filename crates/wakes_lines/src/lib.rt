@@ -9,18 +9,11 @@ use lines::numbered;
 use printing::Line;
 use wake_log::Row;
 
-// The first of so many rows that no run writes, or their number.
-pub fn first_bad(log: &[u8], rows: u32) -> u32
+// The first of so many rows that no run writes.
+pub fn first_bad(log: &[u8], rows: u32) -> Option<u32>
     ensures { FirstBad log.now rows result }
 {
-    let mut k = 0;
-    while k < rows {
-        if !wake_log::is_row(log, k) {
-            return k;
-        }
-        k = k + 1;
-    }
-    rows
+    (0..rows).find(|k| !wake_log::is_row(log, *k))
 }
 
 // A blank and a cause's name.
