@@ -25,78 +25,68 @@ pub struct Registers {
 pub fn offset_of(v: u8) -> u16
     ensures { result ≡ offset v }
 {
-    if v < 128 { v as u16 } else { v as u16 + 65280 }
+    i16::from(v.cast_signed()).cast_unsigned()
 }
 
-fn with_v(mut k: Codes, b: bool) -> Codes
+fn with_v(k: Codes, b: bool) -> Codes
     ensures { result ≡ with_v k b }
 {
-    k.v = b;
-    k
+    Codes { v: b, ..k }
 }
 
-fn with_c(mut k: Codes, b: bool) -> Codes
+fn with_c(k: Codes, b: bool) -> Codes
     ensures { result ≡ with_c k b }
 {
-    k.c = b;
-    k
+    Codes { c: b, ..k }
 }
 
-pub fn with_i(mut k: Codes, b: bool) -> Codes
+pub fn with_i(k: Codes, b: bool) -> Codes
     ensures { result ≡ with_i k b }
 {
-    k.i = b;
-    k
+    Codes { i: b, ..k }
 }
 
 impl Registers {
-    pub fn with_a(mut self, v: u8) -> Registers
+    pub fn with_a(self, v: u8) -> Registers
         ensures { result ≡ with_a self v }
     {
-        self.a = v;
-        self
+        Registers { a: v, ..self }
     }
 
-    pub fn with_b(mut self, v: u8) -> Registers
+    pub fn with_b(self, v: u8) -> Registers
         ensures { result ≡ with_b self v }
     {
-        self.b = v;
-        self
+        Registers { b: v, ..self }
     }
 
-    pub fn with_x(mut self, w: u16) -> Registers
+    pub fn with_x(self, w: u16) -> Registers
         ensures { result ≡ with_x self w }
     {
-        self.x = w;
-        self
+        Registers { x: w, ..self }
     }
 
-    pub fn with_sp(mut self, w: u16) -> Registers
+    pub fn with_sp(self, w: u16) -> Registers
         ensures { result ≡ with_sp self w }
     {
-        self.sp = w;
-        self
+        Registers { sp: w, ..self }
     }
 
-    pub fn with_pc(mut self, w: u16) -> Registers
+    pub fn with_pc(self, w: u16) -> Registers
         ensures { result ≡ with_pc self w }
     {
-        self.pc = w;
-        self
+        Registers { pc: w, ..self }
     }
 
-    pub fn with_codes(mut self, k: Codes) -> Registers
+    pub fn with_codes(self, k: Codes) -> Registers
         ensures { result ≡ with_codes self k }
     {
-        self.codes = k;
-        self
+        Registers { codes: k, ..self }
     }
 
-    pub fn with_waiting(mut self, w: bool) -> Registers
+    pub fn with_waiting(self, w: bool) -> Registers
         ensures { result ≡ with_waiting self w }
     {
-        self.waiting = w;
-        self
+        Registers { waiting: w, ..self }
     }
 
     // Whether a cycle merely passes.
@@ -113,12 +103,14 @@ impl Registers {
         pair(self.a, self.b)
     }
 
-    pub fn with_double(mut self, w: u16) -> Registers
+    pub fn with_double(self, w: u16) -> Registers
         ensures { result ≡ with_d self w }
     {
-        self.a = upper(w);
-        self.b = lower(w);
-        self
+        Registers {
+            a: upper(w),
+            b: lower(w),
+            ..self
+        }
     }
 
     pub fn of(self, acc: Accumulator) -> u8
@@ -143,30 +135,13 @@ impl Registers {
     pub fn result(self, acc: Accumulator, r: Outcome<u8>) -> Registers
         ensures { result ≡ result_in acc self r }
     {
-        let k = r.codes;
-        self.with(acc, r.value).with_codes(k)
-    }
-
-    // The codes of a comparison's result.
-    fn compared(self, r: Outcome<u8>) -> Registers
-        ensures { result ≡ with_codes self r.codes }
-    {
-        let k = r.codes;
-        self.with_codes(k)
-    }
-
-    fn compared16(self, r: Outcome<u16>) -> Registers
-        ensures { result ≡ with_codes self r.codes }
-    {
-        let k = r.codes;
-        self.with_codes(k)
+        self.with(acc, r.value).with_codes(r.codes)
     }
 
     fn result_double(self, r: Outcome<u16>) -> Registers
         ensures { result ≡ result_in_d self r }
     {
-        let k = r.codes;
-        self.with_double(r.value).with_codes(k)
+        self.with_double(r.value).with_codes(r.codes)
     }
 }
 
@@ -176,8 +151,8 @@ impl Registers {
     fn indexing(self, x: u16) -> Registers
         ensures { result ≡ with_codes (with_x self x) (indexed_of x self.codes) }
     {
-        let k = self.codes;
-        self.with_x(x).with_codes(arithmetic::indexed(x, k))
+        self.with_x(x)
+            .with_codes(arithmetic::indexed(x, self.codes))
     }
 
     // On the registers alone.
@@ -200,7 +175,7 @@ impl Registers {
             Internal::Cli => self.with_codes(with_i(k, false)),
             Internal::Sei => self.with_codes(with_i(k, true)),
             Internal::Sba => self.result(Accumulator::A, arithmetic::sub(self.a, self.b, k)),
-            Internal::Cba => self.compared(arithmetic::sub(self.a, self.b, k)),
+            Internal::Cba => self.with_codes(arithmetic::sub(self.a, self.b, k).codes),
             Internal::Tab => self.with_b(self.a).with_codes(arithmetic::moved(self.a, k)),
             Internal::Tba => self.with_a(self.b).with_codes(arithmetic::moved(self.b, k)),
             Internal::Daa => self.result(Accumulator::A, arithmetic::daa(self.a, k)),
@@ -222,7 +197,7 @@ impl Registers {
         match op {
             Wide::Subd => self.result_double(arithmetic::sub16(self.double(), w, k)),
             Wide::Addd => self.result_double(arithmetic::add16(self.double(), w, k)),
-            Wide::Cpx => self.compared16(arithmetic::sub16(self.x, w, k)),
+            Wide::Cpx => self.with_codes(arithmetic::sub16(self.x, w, k).codes),
             Wide::Ldd => self.with_double(w).with_codes(arithmetic::moved(w, k)),
             Wide::Lds => self.with_sp(w).with_codes(arithmetic::moved(w, k)),
             Wide::Ldx => self.with_x(w).with_codes(arithmetic::moved(w, k)),
