@@ -71,15 +71,9 @@ pub fn target_of(place: Place) -> Option<Accumulator>
     ensures { result ≡ target_of place }
 {
     match place {
-        Place::Inherent => None,
         Place::AccumulatorA => Some(Accumulator::A),
         Place::AccumulatorB => Some(Accumulator::B),
-        Place::ImmediateByte => None,
-        Place::ImmediateWord => None,
-        Place::Direct => None,
-        Place::Indexed => None,
-        Place::Extended => None,
-        Place::Relative => None,
+        _ => None,
     }
 }
 
@@ -101,6 +95,7 @@ fn tst_shape(target: Option<Accumulator>) -> Shape
     }
 }
 
+#[tactic(auto, unfolding(crate::specs::Shapes::shape_of))]
 pub fn shape_of(operation: Operation, place: Place) -> Shape
     ensures { result ≡ shape_of operation place }
 {
@@ -118,8 +113,7 @@ pub fn shape_of(operation: Operation, place: Place) -> Shape
         Operation::Pulx => Shape::LoadWord(LoadingWord::Pulx),
         Operation::Branch(test) => Shape::Nothing(Quiet::Branch(test)),
         Operation::Jmp => Shape::Nothing(Quiet::Jmp),
-        Operation::Jsr => Shape::PushWord(Pushing::Jsr),
-        Operation::Bsr => Shape::PushWord(Pushing::Jsr),
+        Operation::Jsr | Operation::Bsr => Shape::PushWord(Pushing::Jsr),
         Operation::Rts => Shape::LoadWord(LoadingWord::Rts),
         Operation::Rti => Shape::Rti,
         Operation::Swi => Shape::Swi,
@@ -138,6 +132,7 @@ fn branch(test: Branch, at: u16, c: Registers) -> Registers
 }
 
 impl Quiet {
+    #[tactic(auto, unfolding(crate::specs::Operations::quiet_of))]
     pub fn done(self, at: u16, c: Registers) -> Registers
         ensures { result ≡ quiet_of self at c }
     {
@@ -153,16 +148,17 @@ impl Quiet {
 
 impl Loading {
     // Where the byte is: a pull's is above SP.
+    #[tactic(auto, unfolding(crate::specs::Operations::load_at))]
     pub fn address(self, at: u16, c: Registers) -> u16
         ensures { result ≡ load_at self at c }
     {
         match self {
-            Loading::Dyadic(op, acc) => at,
-            Loading::Tst => at,
-            Loading::Pul(acc) => plus(c.sp, 1),
+            Loading::Dyadic(_, _) | Loading::Tst => at,
+            Loading::Pul(_) => plus(c.sp, 1),
         }
     }
 
+    #[tactic(auto, unfolding(crate::specs::Operations::loaded_of))]
     pub fn loaded(self, v: u8, c: Registers) -> Registers
         ensures { result ≡ loaded_of self v c }
     {
@@ -178,16 +174,17 @@ impl Loading {
 }
 
 impl LoadingWord {
+    #[tactic(auto, unfolding(crate::specs::Operations::load_word_at))]
     pub fn address(self, at: u16, c: Registers) -> u16
         ensures { result ≡ load_word_at self at c }
     {
         match self {
-            LoadingWord::Wide(op) => at,
-            LoadingWord::Pulx => plus(c.sp, 1),
-            LoadingWord::Rts => plus(c.sp, 1),
+            LoadingWord::Wide(_) => at,
+            LoadingWord::Pulx | LoadingWord::Rts => plus(c.sp, 1),
         }
     }
 
+    #[tactic(auto, unfolding(crate::specs::Operations::loaded_word_of))]
     pub fn loaded(self, w: u16, c: Registers) -> Registers
         ensures { result ≡ loaded_word_of self w c }
     {
@@ -201,34 +198,37 @@ impl LoadingWord {
 
 impl Storing {
     // Where the byte goes: a push's goes to SP.
+    #[tactic(auto, unfolding(crate::specs::Operations::store_at))]
     pub fn address(self, at: u16, c: Registers) -> u16
         ensures { result ≡ store_at self at c }
     {
         match self {
-            Storing::Sta(acc) => at,
-            Storing::Psh(acc) => c.sp,
+            Storing::Sta(_) => at,
+            Storing::Psh(_) => c.sp,
         }
     }
 
+    #[tactic(auto, unfolding(crate::specs::Operations::store_byte))]
     pub fn byte(self, c: Registers) -> u8
         ensures { result ≡ store_byte self c }
     {
         match self {
-            Storing::Sta(acc) => c.of(acc),
-            Storing::Psh(acc) => c.of(acc),
+            Storing::Sta(acc) | Storing::Psh(acc) => c.of(acc),
         }
     }
 
+    #[tactic(auto, unfolding(crate::specs::Operations::stored_then))]
     pub fn stored(self, c: Registers) -> Registers
         ensures { result ≡ stored_then self c }
     {
         match self {
             Storing::Sta(acc) => c.with_codes(arithmetic::moved(c.of(acc), c.codes)),
-            Storing::Psh(acc) => c.with_sp(minus(c.sp, 1)),
+            Storing::Psh(_) => c.with_sp(minus(c.sp, 1)),
         }
     }
 }
 
+#[tactic(auto, unfolding(crate::specs::Operations::stored_word_then))]
 pub fn stored_word(op: WideStore, c: Registers) -> Registers
     ensures { result ≡ stored_word_then op c }
 {
@@ -236,6 +236,7 @@ pub fn stored_word(op: WideStore, c: Registers) -> Registers
 }
 
 impl Pushing {
+    #[tactic(auto, unfolding(crate::specs::Operations::word_of))]
     pub fn word(self, c: Registers) -> u16
         ensures { result ≡ word_of self c }
     {
@@ -246,6 +247,7 @@ impl Pushing {
     }
 
     // With SP below the word.
+    #[tactic(auto, unfolding(crate::specs::Operations::pushed_then))]
     pub fn pushed(self, at: u16, c: Registers) -> Registers
         ensures { result ≡ pushed_then self at c }
     {
