@@ -85,7 +85,7 @@ fn run_call(
         Ok(m) => {
             let e = cabinet::watch_either(leaping, image, area, m, session, n, watch, output, log);
             let ran = e.ran;
-            saved::save(ran.machine, machine);
+            let _ = saved::save(ran.machine, machine);
             board_results::report(leaping, ran.reply, ran.counts, e.leaps, res)
         }
         Err(LoadRefusal::WrongLength) => 26,

@@ -1,5 +1,5 @@
 -- The ways that each C call can end, as laws over plain variables. Assumes nothing.
-use Rattle.std.specs.Prelude.{Result, Option, Some}
+use Rattle.std.specs.Prelude.{Result, Err, Option, Some}
 use Prim.Native.Nat.{ℕ, ◌≤◌, ◌<◌}
 use native.Mathlib.Omega.{arith}
 use mathlib.Core.List.{List, ◌++◌}
@@ -21,7 +21,6 @@ use Rattle.asking.specs.Asking.{told_decoded, opcode_answer}
 use Rattle.power.specs.Power.{told_power, power_answer}
 use Rattle.saved.specs.Layout.{saved_of}
 use Rattle.saved.specs.Answers.{left_of}
-use Rattle.std.specs.Prelude.{Result, Err}
 use Rattle.rest.specs.declared.RestRefusal.{RestRefusal}
 use Rattle.rest.specs.declared.RestRefusal.TheVariants.{Bad}
 use Rattle.rest.specs.Answers.{told_rest, rest_answer, rest_buffer}

@@ -8,7 +8,6 @@ ghost use Rattle.board_calls.specs.Calls.{wrote, power_call, ask_call, rest_call
 
 use counts::{Cycles, Records};
 use machine::PowerRefusal;
-use opcodes::Instruction;
 use replies::Reply;
 use rest::RestRefusal;
 
@@ -19,10 +18,9 @@ pub fn power_on(image: &[u8], r: u32, machine: &mut [u8]) -> u32
     if machine.len() != 42 {
         return 26;
     }
-    let power = power::power_on(image, r);
-    match power {
+    match power::power_on(image, r) {
         Ok(m) => {
-            saved::save(m, machine);
+            let _ = saved::save(m, machine);
             0
         }
         Err(PowerRefusal::WrongImage) => 1,
@@ -37,8 +35,7 @@ pub fn ask(opcode: u8, answer: &mut [u8]) -> u32
     if answer.len() < 6 {
         return 29;
     }
-    let decoded = asking::ask(opcode);
-    match decoded {
+    match asking::ask(opcode) {
         None => 8,
         Some(i) => {
             let six = board_numbers::instruction_bytes(i);
@@ -56,14 +53,11 @@ pub fn rest(session: &[u8], used: Records, cycles: Cycles, buffer: &mut [u8], re
     if res.len() < 8 {
         return 29;
     }
-    let left = rest::rest(session, used, cycles, buffer);
-    match left {
+    match rest::rest(session, used, cycles, buffer) {
         Ok(length) => board_results::tell(0, length, res),
         Err(RestRefusal::Bad(fault)) => {
             let refusal = Reply::from(fault);
-            let number = refusal.number() as u32;
-            let named = refusal.record();
-            board_results::tell(number, named, res)
+            board_results::tell(refusal.number() as u32, refusal.record(), res)
         }
         Err(RestRefusal::TooFew) => 30,
         Err(RestRefusal::NoRoom) => 31,

@@ -9,10 +9,10 @@ returns-then-answer-lt6 c = ask_short c.args.opcode c.args.answer.now c.if-answe
 
 pub returns-in-None : goal.returns-in-None
 returns-in-None c = let a = c.args in
-    asked a.opcode a.answer.now _ c.if-answer-lt6.false c.ask-decoded.ensures c.in-None.is
+    asked a.opcode a.answer.now _ c.if-answer-lt6.false c.ask.ensures c.in-None.is
 
 pub returns-in-Some : goal.returns-in-Some
 returns-in-Some c = let a = c.args in
     let six = c.instruction_bytes-six.result in
-    asked_copied a.opcode a.answer.now _ c.if-answer-lt6.false c.ask-decoded.ensures c.in-Some.is
+    asked_copied a.opcode a.answer.now _ c.if-answer-lt6.false c.ask.ensures c.in-Some.is
     c.instruction_bytes-six.ensures (rw (take_all (length six) six (omega arith)) c.copy.ensures)

@@ -12,22 +12,22 @@ pub returns-in-Ok : goal.returns-in-Ok
 returns-in-Ok c = let a = c.args in
     returned_told _ a.res.now _ _ c.tell.ensures
     ∙ rest_left a.session.now a.used.0 a.cycles.0 a.buffer.now a.res.now _
-    c.if-res-lt8.false c.rest-left.ensures c.in-Ok.is
+    c.if-res-lt8.false c.rest.ensures c.in-Ok.is
 
-pub returns-in-Bad : goal.returns-in-Bad
-returns-in-Bad c = let a = c.args in
-    let r = c.refusal-refusal in
-    rest_refused _ a.res.now c.in-Bad.fault r.result r.ensures
-    c.number-number.ensures c.record-named.ensures c.tell-in-Bad.ensures
+pub returns-in-Err-Bad : goal.returns-in-Err-Bad
+returns-in-Err-Bad c = let a = c.args in
+    let r = c.from-refusal in
+    rest_refused _ a.res.now c.in-Err-Bad.fault r.result r.ensures
+    c.number.ensures c.record.ensures c.tell-in-Err-Bad.ensures
     ∙ rest_left a.session.now a.used.0 a.cycles.0 a.buffer.now a.res.now _
-    c.if-res-lt8.false c.rest-left.ensures c.in-Bad.is
+    c.if-res-lt8.false c.rest.ensures (rw c.in-Err-Bad.field-0-is at c.in-Err-Bad.is)
 
-pub returns-in-TooFew : goal.returns-in-TooFew
-returns-in-TooFew c = let a = c.args in
+pub returns-in-Err-TooFew : goal.returns-in-Err-TooFew
+returns-in-Err-TooFew c = let a = c.args in
     rest_left a.session.now a.used.0 a.cycles.0 a.buffer.now a.res.now _
-    c.if-res-lt8.false c.rest-left.ensures c.in-TooFew.is
+    c.if-res-lt8.false c.rest.ensures (rw c.in-Err-TooFew.field-0-is at c.in-Err-TooFew.is)
 
-pub returns-in-NoRoom : goal.returns-in-NoRoom
-returns-in-NoRoom c = let a = c.args in
+pub returns-in-Err-NoRoom : goal.returns-in-Err-NoRoom
+returns-in-Err-NoRoom c = let a = c.args in
     rest_left a.session.now a.used.0 a.cycles.0 a.buffer.now a.res.now _
-    c.if-res-lt8.false c.rest-left.ensures c.in-NoRoom.is
+    c.if-res-lt8.false c.rest.ensures (rw c.in-Err-NoRoom.field-0-is at c.in-Err-NoRoom.is)

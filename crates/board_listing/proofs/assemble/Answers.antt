@@ -12,27 +12,27 @@ pub returns-in-Ok-Some : goal.returns-in-Ok-Some
 returns-in-Ok-Some c = let a = c.args in
     ap (returned 0 _) c.tell_span.ensures
     ∙ assemble_left a.text.now a.buffer.now a.res.now _
-    c.if-res-lt16.false c.assemble.ensures c.in-Ok-Some.is
+    c.if-res-lt16.false c.assemble.ensures (rw c.in-Ok-Some.field-0-is at c.in-Ok-Some.is)
 
 pub returns-in-Ok-None : goal.returns-in-Ok-None
 returns-in-Ok-None c = let a = c.args in
     ap (returned 0 _) c.tell_span-in-Ok-None.ensures
     ∙ assemble_left a.text.now a.buffer.now a.res.now _
-    c.if-res-lt16.false c.assemble.ensures c.in-Ok-None.is
+    c.if-res-lt16.false c.assemble.ensures (rw c.in-Ok-None.field-0-is at c.in-Ok-None.is)
 
 pub returns-in-Err-Malformed : goal.returns-in-Err-Malformed
 returns-in-Err-Malformed c = let a = c.args in
     returned_told _ a.res.now _ _ c.tell.ensures
     ∙ assemble_left a.text.now a.buffer.now a.res.now _
-    c.if-res-lt16.false c.assemble.ensures c.in-Err-Malformed.is
+    c.if-res-lt16.false c.assemble.ensures (rw c.in-Err-Malformed.field-0-is at c.in-Err-Malformed.is)
 
 pub returns-in-Err-TooFar : goal.returns-in-Err-TooFar
 returns-in-Err-TooFar c = let a = c.args in
     returned_told _ a.res.now _ _ c.tell-in-Err-TooFar.ensures
     ∙ assemble_left a.text.now a.buffer.now a.res.now _
-    c.if-res-lt16.false c.assemble.ensures c.in-Err-TooFar.is
+    c.if-res-lt16.false c.assemble.ensures (rw c.in-Err-TooFar.field-0-is at c.in-Err-TooFar.is)
 
 pub returns-in-Err-NoRoom : goal.returns-in-Err-NoRoom
 returns-in-Err-NoRoom c = let a = c.args in
     assemble_left a.text.now a.buffer.now a.res.now _
-    c.if-res-lt16.false c.assemble.ensures c.in-Err-NoRoom.is
+    c.if-res-lt16.false c.assemble.ensures (rw c.in-Err-NoRoom.field-0-is at c.in-Err-NoRoom.is)

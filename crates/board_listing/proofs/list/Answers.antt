@@ -16,14 +16,14 @@ returns-in-Ok c = let a = c.args in
 pub returns-in-Err-WrongImage : goal.returns-in-Err-WrongImage
 returns-in-Err-WrongImage c = let a = c.args in
     list_left a.image.now a.first a.last a.buffer.now a.res.now _
-    c.if-res-lt8.false c.list.ensures c.in-Err-WrongImage.is
+    c.if-res-lt8.false c.list.ensures (rw c.in-Err-WrongImage.field-0-is at c.in-Err-WrongImage.is)
 
 pub returns-in-Err-WrongRange : goal.returns-in-Err-WrongRange
 returns-in-Err-WrongRange c = let a = c.args in
     list_left a.image.now a.first a.last a.buffer.now a.res.now _
-    c.if-res-lt8.false c.list.ensures c.in-Err-WrongRange.is
+    c.if-res-lt8.false c.list.ensures (rw c.in-Err-WrongRange.field-0-is at c.in-Err-WrongRange.is)
 
 pub returns-in-Err-NoRoom : goal.returns-in-Err-NoRoom
 returns-in-Err-NoRoom c = let a = c.args in
     list_left a.image.now a.first a.last a.buffer.now a.res.now _
-    c.if-res-lt8.false c.list.ensures c.in-Err-NoRoom.is
+    c.if-res-lt8.false c.list.ensures (rw c.in-Err-NoRoom.field-0-is at c.in-Err-NoRoom.is)
