@@ -17,8 +17,5 @@ pub fn ask(opcode: u8) -> Option<Instruction>
 pub fn filled(output: &[u8], sent: usize) -> &[u8]
     ensures { result.now ≡ take sent output.now }
 {
-    if sent <= output.len() {
-        return &output[..sent];
-    }
-    output
+    &output[..sent.min(output.len())]
 }

@@ -7,4 +7,4 @@ returns c = let a = c.args in
     let f = c.requires.0 in
     let within = waits a.s c.idles.ensures c.if-not-s-idles.false in
     let room = c.room-k in
-    λ watch. leapt (watching a.session.now a.n watch) a.s room.result within room.ensures f c.pass-m.ensures c.moved.ensures
+    λ watch. leapt (watching a.session.now a.n watch) a.s room.result within room.ensures f c.pass.ensures c.moved.ensures

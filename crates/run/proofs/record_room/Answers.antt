@@ -11,5 +11,5 @@ pub returns : goal.returns
 returns c = let a = c.args in
     first_same
     (λ j. a_record a.session.now a.count.0 a.at c.if-session-at.false j
-    ∙ rw (← c.time_at-time.ensures) (leb_shifted _ a.count.0 j))
+    ∙ rw (c.saturating_sub.ensures, ← c.time_at-time.ensures) (leb_shifted _ a.count.0 j))
     c.least.ensures
