@@ -4,7 +4,7 @@
 ghost use Rattle.std.specs.Prelude.{◌≡◌, ◌+◌, ◌≤◌, ◌<◌, length, take};
 ghost use Rattle.std.proofs.lemmas.List.Edits.{sets};
 ghost use Rattle.listing_lines.specs.Lines.{bytes_of, item_line};
-ghost use Rattle.listing.specs.Listing.{image_byte, fitting_in, shown_at, listing_from, told_listed, list_answer, list_buffer};
+ghost use Rattle.listing.specs.Listing.{image_byte, fitting_in, shown_at, listing_from, told_listed, is_bad_range, list_answer, list_buffer};
 
 use listing_lines::Text;
 use opcodes::Instruction;
@@ -35,6 +35,7 @@ fn fitting(decoded: Option<Instruction>, room: usize) -> Option<Instruction>
 }
 
 // What is listed at an address.
+#[tactic(auto, using(crate::proofs::Laws::shown_bounds), unfolding(crate::specs::Listing::shown_at))]
 pub fn shown_at(image: &[u8], last: usize, address: usize) -> Option<Instruction>
     requires { (address ≤ last) × (last < 65536) }
     ensures { (result ≡ shown_at image.now last address)
@@ -105,6 +106,13 @@ fn write(image: &[u8], first: usize, last: usize, buffer: &mut [u8])
     }
 }
 
+// Whether a range goes past $FFFF or backward.
+pub fn is_bad_range(first: u32, last: u32) -> bool
+    ensures { result ≡ is_bad_range first last }
+{
+    65535 < last || last < first
+}
+
 // The listing of first to last, both included, at the buffer's front; how many characters it has.
 pub fn list(image: &[u8], first: u32, last: u32, buffer: &mut [u8]) -> Result<usize, ListRefusal>
     ensures { (told_listed result ≡ list_answer image.now first last buffer.old)
@@ -113,7 +121,7 @@ pub fn list(image: &[u8], first: u32, last: u32, buffer: &mut [u8]) -> Result<us
     if image.len() != 65536 {
         return Err(ListRefusal::WrongImage);
     }
-    if 65535 < last || last < first {
+    if is_bad_range(first, last) {
         return Err(ListRefusal::WrongRange);
     }
     let n = measure(image, first as usize, last as usize);

@@ -19,6 +19,7 @@ pub enum MarkRefusal {
 }
 
 // What the column has before the line of so many bytes at an address.
+#[tactic(auto, unfolding(crate::specs::Marks::mark_of))]
 fn mark(map: &[u8], address: usize, bytes: u8) -> u8
     requires bytes_bound { address + bytes ≤ 65536 }
     requires le_bytes { 1 ≤ bytes }
@@ -27,16 +28,10 @@ fn mark(map: &[u8], address: usize, bytes: u8) -> u8
     if execution_map::has_run(map, address as u16) {
         return b'*';
     }
-    if bytes < 2 {
-        return b' ';
-    }
-    if execution_map::has_run(map, (address + 1) as u16) {
+    if 1 < bytes && execution_map::has_run(map, (address + 1) as u16) {
         return b'+';
     }
-    if bytes < 3 {
-        return b' ';
-    }
-    if execution_map::has_run(map, (address + 2) as u16) {
+    if 2 < bytes && execution_map::has_run(map, (address + 2) as u16) {
         return b'+';
     }
     b' '
@@ -93,7 +88,7 @@ pub fn list_marked(
     if image.len() != 65536 {
         return Err(MarkRefusal::WrongImage);
     }
-    if 65535 < last || last < first {
+    if listing::is_bad_range(first, last) {
         return Err(MarkRefusal::WrongRange);
     }
     if !map_file::is_map(file) {

@@ -1,40 +1,25 @@
--- What it is that a text begins with a line: character by character, and the text after it. Assumes nothing.
-use Prim.Native.Nat.{ℕ, ◌+◌, ◌≤◌, ◌<◌}
-use native.Mathlib.Numerals.{add-one}
+-- What it is that a text begins with a line: the library's test, and the text after it. Assumes nothing.
+use Prim.Native.Nat.{ℕ}
+use native.Mathlib.Omega.{arith}
+use Rattle.std.specs.List.{starts_with}
 use mathlib.Core.Path.{◌≡◌, refl, sym, ap}
-use mathlib.Core.Bool.{true, false, ◌&&◌, true≢false}
+use mathlib.Core.Bool.{true, true≢false}
 use mathlib.Core.List.{List, [], ◌∷◌, ◌++◌}
 use lib.Dec.{eqb}
-use lib.ListN.{get_or, length, drop, drop_of_length-le}
-use lib.Seq.{drop-cons}
-use borrow.Author.Tests.{eq-eqb, ne_eqb, eqb-true}
+use lib.ListN.{length, drop}
+use borrow.Author.Tests.{eq-eqb, eqb-true}
 use Rattle.laws.proofs.Bools.{both}
 use Rattle.listing_reading.specs.Reading.{begins}
 
--- from a character on that both have
-from_both : (w l : List ℕ) (i : ℕ) → i < length w → i < length l
-    → begins (drop i w) (drop i l) ≡ eqb (get_or w i 0) (get_or l i 0) && begins (drop (i + 1) w) (drop (i + 1) l)
+-- the library's test
+pub starts_begins : (w l : List ℕ) → starts_with eqb w l ≡ begins w l
 unfolding begins
-from_both w l i h k = rw (drop-cons w i 0 h, drop-cons l i 0 k, add-one i)
-
--- the same character
-pub begins_same : (w l : List ℕ) (i : ℕ) → i < length w → i < length l → get_or w i 0 ≡ get_or l i 0
-    → begins (drop i w) (drop i l) ≡ begins (drop (i + 1) w) (drop (i + 1) l)
-begins_same w l i h k e = rw (from_both w l i h k, eq-eqb _ _ e)
-
--- another one
-pub begins_other : (w l : List ℕ) (i : ℕ) → i < length w → i < length l → (get_or w i 0 ≡ get_or l i 0 → ⊥) → begins (drop i w) (drop i l) ≡ false
-begins_other w l i h k n = rw (from_both w l i h k, ne_eqb _ _ n)
-
--- the text ends within the line
-pub begins_short : (w l : List ℕ) (i : ℕ) → length w ≤ i → i < length l → begins (drop i w) (drop i l) ≡ false
-unfolding begins
-begins_short w l i h k = rw (drop_of_length-le w h, drop-cons l i 0 k)
-
--- the line has ended
-pub begins_end : (w l : List ℕ) (i : ℕ) → length l ≤ i → begins (drop i w) (drop i l) ≡ true
-unfolding begins
-begins_end w l i h = rw (drop_of_length-le l h)
+starts_begins w [] = refl
+starts_begins [] (c ∷ l) = refl
+starts_begins (d ∷ w) (c ∷ l) = rw (eqb_turned c d, starts_begins w l) refl
+  where
+    eqb_turned : (a b : ℕ) → eqb a b ≡ eqb b a
+    eqb_turned a b = grind arith
 
 -- a line and any text after it
 pub begins_append : (l r : List ℕ) → begins (l ++ r) l ≡ true

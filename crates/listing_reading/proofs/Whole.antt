@@ -11,9 +11,10 @@ use Rattle.laws.proofs.Bools.{both}
 use Rattle.laws.proofs.Conds.{cases}
 use Rattle.listing_lines.proofs.Laws.{line_size, size_least}
 use Rattle.listing_codes.specs.Codes.{coded_of}
-use Rattle.listing_codes.specs.declared.Piece.{Piece}
-use Rattle.listing_codes.specs.declared.Read.{Read}
-use Rattle.listing_codes.specs.declared.Read.TheVariants.{Bad, Far, Line}
+use Rattle.std.specs.Prelude.{Result, Ok, Err}
+use Rattle.listing_codes.specs.declared.Line.{Line}
+use Rattle.listing_codes.specs.declared.Unread.{Unread}
+use Rattle.listing_codes.specs.declared.Unread.TheVariants.{Bad, Far}
 use Rattle.listing_codes.proofs.Whole.{coded_whole, coded_far}
 use Rattle.listing_reading.specs.Reading.{at, digit_in, two_in, four_in, address_in, column_in, name_in, form_in, operand_in, written_as, begins, no_end, is_line, line_in}
 use Rattle.listing_reading.proofs.Begins.{begins_rest}
@@ -41,29 +42,30 @@ written_within w e =
     omega arith
 
 -- a line was read only where the text begins with it
-lines : (P : Read → Type 0) (w : List ℕ) → P Bad
+lines : (P : Result Line Unread → Type 0) (w : List ℕ) → P (Err Bad)
     → (is_line w ≡ true → P (coded_of (address_in w) (name_in w) (form_in w) (operand_in (form_in w) w) (length (written_as w)))) → P (line_in w)
 unfolding line_in
 lines P w bad good = cases P (is_line w) good (λ _. bad)
 
 -- a line that is read
-pub read_whole : (w : List ℕ) (p : Piece) (n : ℕ) → line_in w ≡ Line p n
-    → (20 ≤ n) × (n ≤ length w) × (1 ≤ p.length) × (p.length ≤ 3) × (p.address ≡ address_in w) × (p.address + p.length ≤ 65536)
-read_whole w p n =
-    lines
-    (λ (r : Read). r ≡ Line p n
-    → (20 ≤ n) × (n ≤ length w) × (1 ≤ p.length) × (p.length ≤ 3) × (p.address ≡ address_in w) × (p.address + p.length ≤ 65536))
-    w
+abbrev pub Within : List ℕ → Line → Type 0
+Within w l =
+    let p = l.piece in
+    (20 ≤ l.size) × (l.size ≤ length w) × (1 ≤ p.length) × (p.length ≤ 3) × (p.address ≡ address_in w) × (p.address + p.length ≤ 65536)
+
+pub read_whole : (w : List ℕ) (l : Line) → line_in w ≡ Ok l → Within w l
+read_whole w l =
+    lines (λ (r : Result Line Unread). r ≡ Ok l → Within w l) w
     (λ e. apart cc)
     (λ is e.
-    let h = coded_whole (address_in w) (operand_in (form_in w) w) (length (written_as w)) (name_in w) (form_in w) p n e in
+    let h = coded_whole (address_in w) (operand_in (form_in w) w) (length (written_as w)) (name_in w) (form_in w) l e in
     let least = written_long w in
     let most = written_within w is in
     let sized = h.sized in
     (omega arith, omega arith, h.least, h.most, h.stands, h.inside (word_small w 1)))
 
 -- a target out of reach
-pub read_far : (w : List ℕ) (a : ℕ) → line_in w ≡ Far a → a ≡ address_in w
+pub read_far : (w : List ℕ) (a : ℕ) → line_in w ≡ Err (Far a) → a ≡ address_in w
 read_far w a =
-    lines (λ (r : Read). r ≡ Far a → a ≡ address_in w) w (λ e. apart cc)
+    lines (λ (r : Result Line Unread). r ≡ Err (Far a) → a ≡ address_in w) w (λ e. apart cc)
     (λ _ e. coded_far (address_in w) (operand_in (form_in w) w) (length (written_as w)) (name_in w) (form_in w) a e)

@@ -18,6 +18,7 @@ fn character(line: &[u8], column: usize) -> u8
 }
 
 // A digit's value.
+#[tactic(auto, unfolding(crate::specs::Reading::digit_in))]
 fn digit_in(c: u8) -> u8
     ensures { (result ≡ digit_in c) × (result < 16) }
 {
@@ -90,6 +91,7 @@ fn name_in(line: &[u8]) -> [u8; 4]
 }
 
 // How the operand seems to be written.
+#[tactic(auto, unfolding(crate::specs::Reading::form_in))]
 fn form_in(line: &[u8]) -> Form
     ensures { result ≡ form_in line.now }
 {
@@ -125,6 +127,7 @@ fn operand_in(form: Form, line: &[u8]) -> u16
 }
 
 // Whether a text begins with a line.
+#[tactic(auto, using(crate::proofs::Begins::starts_begins))]
 fn begins_with(text: &[u8], line: &[u8]) -> bool
     ensures { result ≡ begins text.now line.now }
 {

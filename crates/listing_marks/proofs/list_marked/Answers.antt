@@ -7,22 +7,22 @@ pub returns-then-image-ne65536 : goal.returns-then-image-ne65536
 returns-then-image-ne65536 c = let a = c.args in
     wrong_image a.image.now a.first a.last a.file.now a.buffer.now c.if-image-ne65536.true
 
-pub returns-then-bad : goal.returns-then-bad
-returns-then-bad c = let a = c.args in
-    wrong_range a.image.now a.first a.last a.file.now a.buffer.now c.if-image-ne65536.false c.if-bad.true
+pub returns-then-is_bad_range : goal.returns-then-is_bad_range
+returns-then-is_bad_range c = let a = c.args in
+    wrong_range a.image.now a.first a.last a.file.now a.buffer.now c.if-image-ne65536.false (sym c.is_bad_range.ensures ∙ c.if-is_bad_range.true)
 
 pub returns-then-not-is_map : goal.returns-then-not-is_map
 returns-then-not-is_map c = let a = c.args in
-    wrong_map a.image.now a.first a.last a.file.now a.buffer.now c.if-image-ne65536.false c.if-bad.false
+    wrong_map a.image.now a.first a.last a.file.now a.buffer.now c.if-image-ne65536.false (sym c.is_bad_range.ensures ∙ c.if-is_bad_range.false)
     (sym c.is_map.ensures ∙ c.if-not-is_map.true)
 
 pub returns-then-buffer-last : goal.returns-then-buffer-last
 returns-then-buffer-last c = let a = c.args in
-    no_room a.image.now a.first a.last a.file.now a.buffer.now c.if-image-ne65536.false c.if-bad.false
+    no_room a.image.now a.first a.last a.file.now a.buffer.now c.if-image-ne65536.false (sym c.is_bad_range.ensures ∙ c.if-is_bad_range.false)
     (sym c.is_map.ensures ∙ c.if-not-is_map.false) c.if-buffer-last.true
 
 pub returns : goal.returns
 returns c = let a = c.args in
-    wrote a.image.now a.first a.last a.file.now a.buffer.now c.if-image-ne65536.false c.if-bad.false
+    wrote a.image.now a.first a.last a.file.now a.buffer.now c.if-image-ne65536.false (sym c.is_bad_range.ensures ∙ c.if-is_bad_range.false)
     (sym c.is_map.ensures ∙ c.if-not-is_map.false) c.if-buffer-last.false c.filled.ensures
     c.write-n.ensures
