@@ -2,170 +2,216 @@
 // slice and one for the night, and has night_commit put the new files in the old ones' places (docs/NIGHT.md).
 #![tactic(auto)]
 
+ghost use Rattle.std.specs.Prelude.{◌≤◌, length};
 ghost use Rattle.io.specs.Counts.{IsPrefixLen};
 
 use boundary::Watch;
 use counts::Cycles;
 use host::Rest;
 use machine::{Machine, PowerRefusal};
-use night_arguments::Number;
+use night_arguments::{Call, Kind, Options};
+use night_commit::{Contents, Places};
 use night_slices::Night;
 use night_steps::Op;
 use saved::LoadRefusal;
 use std::env::Env;
 use std::fs::Files;
 
-// What a file held: so many bytes, more than the buffer, or it is missing or cannot be read.
+// Why a buffer does not hold a file's bytes: there are more, the file is missing, or it cannot be read.
 #[derive(Clone, Copy)]
-enum Held {
-    Bytes(usize),
+enum Unread {
     Longer,
     Missing,
     Failed,
 }
 
-// The two numbers of a call, and which arguments name its area and its log: 0 where none does.
+// Why a call ends with a refusal. That of a run is told by the night's own line.
+#[derive(Clone, Copy)]
+enum Refusal {
+    Power(PowerRefusal),
+    Area,
+    Load(LoadRefusal),
+    Arguments,
+    Files(night_steps::Refusal),
+}
+
+impl From<PowerRefusal> for Refusal {
+    fn from(refusal: PowerRefusal) -> Refusal {
+        Refusal::Power(refusal)
+    }
+}
+
+impl From<LoadRefusal> for Refusal {
+    fn from(refusal: LoadRefusal) -> Refusal {
+        Refusal::Load(refusal)
+    }
+}
+
+impl Refusal {
+    fn number(self) -> u8 {
+        match self {
+            Refusal::Power(PowerRefusal::WrongImage) => 1,
+            Refusal::Power(PowerRefusal::WrongStart) => 2,
+            Refusal::Area => 12,
+            Refusal::Load(LoadRefusal::WrongLength) => 26,
+            Refusal::Load(LoadRefusal::WrongVersion) => 27,
+            Refusal::Load(LoadRefusal::NoMachine) => 28,
+            Refusal::Load(LoadRefusal::WrongMachine) => 2,
+            Refusal::Arguments => 32,
+            Refusal::Files(refusal) => refusal.number(),
+        }
+    }
+}
+
+const UNREAD: Refusal = Refusal::Files(night_steps::Refusal::Unread);
+
+// The two numbers of a call, and its options.
 #[derive(Clone, Copy)]
 struct Terms {
     n: u32,
     r: u32,
-    area: u8,
-    log: u8,
+    options: Options,
 }
 
-// What a night starts from: a machine, or the number of a refusal.
-#[derive(Clone, Copy)]
-enum Begun {
-    From(Machine),
-    Refused(u8),
-}
-
-// What an open file held, by what is left to read of it behind so many bytes.
-fn held_of(follows: Rest, count: usize) -> Held {
-    match follows {
-        Rest::Failed => Held::Failed,
-        Rest::Nothing => Held::Bytes(count),
-        Rest::Something => Held::Longer,
-    }
-}
-
-// A file's bytes are put at the buffer's front.
-fn read_file(rt: &impl Files, name: &[u8], buffer: &mut [u8]) -> Held {
+// A file's bytes are put at the buffer's front: how many they are.
+fn read_file(rt: &impl Files, name: &[u8], buffer: &mut [u8]) -> Result<usize, Unread> {
     match host::open(rt, name) {
         Ok(mut file) => {
             let count = host::read_full(&mut file, buffer);
-            held_of(host::what_follows(&mut file), count)
-        }
-        Err(error) => {
-            if host::is_absent(&error) {
-                return Held::Missing;
+            match host::what_follows(&mut file) {
+                Rest::Nothing => Ok(count),
+                Rest::Something => Err(Unread::Longer),
+                Rest::Failed => Err(Unread::Failed),
             }
-            Held::Failed
         }
+        Err(error) if host::is_absent(&error) => Err(Unread::Missing),
+        Err(_) => Err(Unread::Failed),
     }
+}
+
+// A file of the night is read, by its number.
+fn read_place(rt: &impl Files, i: u8, places: Places, buffer: &mut [u8]) -> Result<usize, Unread> {
+    let mut name = io::buffer();
+    let n = night_names::place_of(i, places.state, places.names, &mut name);
+    read_file(rt, &name[..n], buffer)
+}
+
+// The same into a buffer that it must fill: this refusal, where its length is wrong.
+fn fill(
+    rt: &impl Files,
+    i: u8,
+    places: Places,
+    buffer: &mut [u8],
+    wrong: Refusal,
+) -> Result<(), Refusal> {
+    match read_place(rt, i, places, buffer) {
+        Ok(count) if count == buffer.len() => Ok(()),
+        Ok(_) | Err(Unread::Longer) => Err(wrong),
+        Err(Unread::Missing) | Err(Unread::Failed) => Err(UNREAD),
+    }
+}
+
+fn is_missing(rt: &impl Files, i: u8, places: Places) -> bool {
+    let mut byte = [0u8; 1];
+    matches!(read_place(rt, i, places, &mut byte), Err(Unread::Missing))
+}
+
+// The image (0) and the area (5) are read. Where the area and STATE (1) are both missing, the area stays zeros.
+fn read_memories(
+    rt: &impl Files,
+    places: Places,
+    image: &mut [u8],
+    area: &mut [u8],
+) -> Result<(), Refusal> {
+    fill(
+        rt,
+        0,
+        places,
+        image,
+        Refusal::Power(PowerRefusal::WrongImage),
+    )?;
+    if is_missing(rt, 5, places) & is_missing(rt, 1, places) {
+        return Ok(());
+    }
+    fill(rt, 5, places, area, Refusal::Area)
 }
 
 // The machine that the state file holds, or where there is none the machine that power-on gives.
-fn begin(rt: &impl Files, state: &[u8], image: &[u8], r: u32) -> Begun {
+fn read_machine(rt: &impl Files, state: &[u8], image: &[u8], r: u32) -> Result<Machine, Refusal> {
     let mut bytes = [0u8; 43];
-    let held = read_file(rt, state, &mut bytes);
-    match held {
-        Held::Missing => switch_on(image, r),
-        Held::Failed => Begun::Refused(33),
-        Held::Longer => Begun::Refused(26),
-        Held::Bytes(n) => load(cabinet::filled(&bytes, n)),
+    match read_file(rt, state, &mut bytes) {
+        Ok(n) => Ok(saved::load(cabinet::filled(&bytes, n))?),
+        Err(Unread::Longer) => Err(Refusal::Load(LoadRefusal::WrongLength)),
+        Err(Unread::Missing) => Ok(cabinet::power_on(image, r)?),
+        Err(Unread::Failed) => Err(UNREAD),
     }
 }
 
-fn switch_on(image: &[u8], r: u32) -> Begun {
-    let power = cabinet::power_on(image, r);
-    match power {
-        Ok(m) => Begun::From(m),
-        Err(PowerRefusal::WrongImage) => Begun::Refused(1),
-        Err(PowerRefusal::WrongStart) => Begun::Refused(2),
-    }
-}
-
-fn load(bytes: &[u8]) -> Begun {
-    let loaded = saved::load(bytes);
-    match loaded {
-        Ok(m) => Begun::From(m),
-        Err(LoadRefusal::WrongLength) => Begun::Refused(26),
-        Err(LoadRefusal::WrongVersion) => Begun::Refused(27),
-        Err(LoadRefusal::NoMachine) => Begun::Refused(28),
-        Err(LoadRefusal::WrongMachine) => Begun::Refused(2),
-    }
-}
-
-// The end of a call, in a number.
-fn tell(rt: &impl Print, end: Op) {
+// What an end of a call refuses, where it is no night's that was placed.
+fn refusal_of(end: Op) -> Refusal {
     match end {
-        Op::Refused(k) => lines::refuse(rt, k),
-        Op::Stopped(k) => lines::refuse(rt, k),
-        _ => lines::refuse(rt, 34),
+        Op::Refused(refusal) | Op::Stopped(refusal) => Refusal::Files(refusal),
+        _ => Refusal::Files(night_steps::Refusal::Failed),
     }
 }
 
 // A night that did not run: STATE.night is removed.
-fn give_up(rt: &impl Files, state_name: &[u8], names: &[u8]) {
-    night_commit::finish(rt, false, state_name, names, b"", b"", b"", b"", b"", b"");
+fn give_up(rt: &impl Files, places: Places) {
+    let none = Contents {
+        image: b"",
+        machine: b"",
+        rest: b"",
+        output: b"",
+        area: b"",
+        log: b"",
+    };
+    night_commit::finish(rt, false, places, none);
 }
 
-// A night that has run: its files, or STATE.night is removed.
-fn keep<'a>(
+// A night that has run: its files, or STATE.night is removed. `contents` are yet without the machine's bytes.
+fn keep(
     rt: &(impl Files + Print),
-    state_name: &[u8],
-    names: &'a [u8],
+    places: Places,
     night: Night,
-    image: &'a [u8],
-    area: &'a [u8],
-    session: &'a [u8],
-    output: &'a [u8],
-    log: &'a [u8],
-) {
+    contents: Contents,
+) -> Result<(), Refusal> {
     let line = night.line();
     if !night.has_stopped() {
-        give_up(rt, state_name, names);
+        give_up(rt, places);
         line.print(rt);
-        return;
+        return Ok(());
     }
     let mut machine = [0u8; 42];
-    saved::save(night.machine, &mut machine);
-    let end = night_commit::finish(
-        rt,
-        true,
-        state_name,
-        names,
-        image,
-        &machine,
-        cabinet::filled(session, night.length),
-        cabinet::filled(output, night.sent),
-        area,
-        cabinet::filled(log, night.logged),
-    );
-    match end {
-        Op::Placed => line.print(rt),
-        _ => tell(rt, end),
+    let _ = saved::save(night.machine, &mut machine);
+    let whole = Contents {
+        machine: &machine,
+        ..contents
+    };
+    match night_commit::finish(rt, true, places, whole) {
+        Op::Placed => {
+            line.print(rt);
+            Ok(())
+        }
+        end => Err(refusal_of(end)),
     }
 }
 
 // A night from a machine, and its files. The log is lent whether it is asked for or not.
 fn pass(
     rt: &(impl Files + Print),
-    state_name: &[u8],
-    names: &[u8],
+    places: Places,
     image: &mut [u8],
     area: &mut [u8],
     session: &mut [u8],
     size: usize,
     terms: Terms,
     m: Machine,
-) {
+) -> Result<(), Refusal> {
     let mut spare = host::zeros::<1048576>();
     let mut output = io::large_buffer();
     let mut log = host::zeros::<1048576>();
     let watch = Watch {
-        log: terms.log != 0,
+        log: terms.options.log.is_some(),
         since: Cycles(0),
     };
     let night = night_slices::run_night(
@@ -181,121 +227,68 @@ fn pass(
         &mut log,
         &mut spare,
     );
-    keep(
-        rt,
-        state_name,
-        names,
-        night,
-        &image[..],
-        &area[..],
-        &session[..],
-        &output,
-        &log,
-    );
+    let contents = Contents {
+        image: &image[..],
+        machine: b"",
+        rest: cabinet::filled(&session[..], night.length),
+        output: cabinet::filled(&output, night.sent),
+        area: &area[..],
+        log: cabinet::filled(&log, night.logged),
+    };
+    keep(rt, places, night, contents)
 }
 
-// A file of the night is read, by its number.
-fn read_place(rt: &impl Files, i: u8, state_name: &[u8], names: &[u8], buffer: &mut [u8]) -> Held {
-    let mut name = io::buffer();
-    let n = night_names::place_of(i, state_name, names, &mut name);
-    read_file(rt, &name[..n], buffer)
-}
-
-// The same into a buffer that it must fill: 0, or the number of a refusal, this one where its length is wrong.
-fn fill(
+// What a night starts from: its session's size, its memories, and the machine.
+fn begin(
     rt: &impl Files,
-    i: u8,
-    state_name: &[u8],
-    names: &[u8],
-    buffer: &mut [u8],
-    wrong: u8,
-) -> u8 {
-    let held = read_place(rt, i, state_name, names, buffer);
-    match held {
-        Held::Missing => 33,
-        Held::Failed => 33,
-        Held::Longer => wrong,
-        Held::Bytes(count) => {
-            if count != buffer.len() {
-                return wrong;
-            }
-            0
-        }
-    }
-}
-
-// Whether a file of the night is missing.
-fn is_missing(rt: &impl Files, i: u8, state_name: &[u8], names: &[u8]) -> bool {
-    let mut byte = [0u8; 1];
-    let held = read_place(rt, i, state_name, names, &mut byte);
-    match held {
-        Held::Missing => true,
-        _ => false,
-    }
-}
-
-// The image (0) and the area (5) are read: 0, or the number of a refusal. Where the area and STATE (1) are both missing, the area stays zeros.
-fn read_memories(
-    rt: &impl Files,
-    state_name: &[u8],
-    names: &[u8],
+    session_name: &[u8],
+    places: Places,
+    r: u32,
+    session: &mut [u8],
     image: &mut [u8],
     area: &mut [u8],
-) -> u8 {
-    let refused = fill(rt, 0, state_name, names, image, 1);
-    if refused != 0 {
-        return refused;
-    }
-    if is_missing(rt, 5, state_name, names) & is_missing(rt, 1, state_name, names) {
-        return 0;
-    }
-    fill(rt, 5, state_name, names, area, 12)
-}
-
-// A night whose session was read.
-fn start(
-    rt: &(impl Files + Print),
-    state_name: &[u8],
-    names: &[u8],
-    session: &mut [u8],
-    size: usize,
-    terms: Terms,
-) {
-    let mut image = io::large_buffer();
-    let mut area = [0u8; 128];
-    let refused = read_memories(rt, state_name, names, &mut image, &mut area);
-    if refused != 0 {
-        give_up(rt, state_name, names);
-        lines::refuse(rt, refused);
-        return;
-    }
-    let begun = begin(rt, state_name, &image, terms.r);
-    match begun {
-        Begun::Refused(k) => {
-            give_up(rt, state_name, names);
-            lines::refuse(rt, k);
-        }
-        Begun::From(m) => pass(
-            rt, state_name, names, &mut image, &mut area, session, size, terms, m,
-        ),
-    }
+) -> Result<(usize, Machine), Refusal> {
+    let Ok(size) = read_file(rt, session_name, session) else {
+        return Err(UNREAD);
+    };
+    read_memories(rt, places, image, area)?;
+    let m = read_machine(rt, places.state, &image[..], r)?;
+    Ok((size, m))
 }
 
 // A night that has STATE.night to itself.
 fn run(
     rt: &(impl Files + Print),
     session_name: &[u8],
-    state_name: &[u8],
-    names: &[u8],
+    places: Places,
     terms: Terms,
-) {
+) -> Result<(), Refusal> {
     let mut session = host::zeros::<1048576>();
-    let held = read_file(rt, session_name, &mut session);
-    match held {
-        Held::Bytes(size) => start(rt, state_name, names, &mut session, size, terms),
-        _ => {
-            give_up(rt, state_name, names);
-            lines::refuse(rt, 33);
+    let mut image = io::large_buffer();
+    let mut area = [0u8; 128];
+    let begun = begin(
+        rt,
+        session_name,
+        places,
+        terms.r,
+        &mut session,
+        &mut image,
+        &mut area,
+    );
+    match begun {
+        Ok((size, m)) => pass(
+            rt,
+            places,
+            &mut image,
+            &mut area,
+            &mut session,
+            size,
+            terms,
+            m,
+        ),
+        Err(refusal) => {
+            give_up(rt, places);
+            Err(refusal)
         }
     }
 }
@@ -304,18 +297,15 @@ fn run(
 fn call(
     rt: &(impl Files + Print),
     session_name: &[u8],
-    state_name: &[u8],
-    names: &[u8],
+    places: Places,
     terms: Terms,
-) {
-    if night_commit::has_folder(rt, state_name, names) {
-        lines::refuse(rt, 32);
-        return;
+) -> Result<(), Refusal> {
+    if night_commit::has_folder(rt, places) {
+        return Err(Refusal::Arguments);
     }
-    let op = night_commit::prepare(rt, state_name);
-    match op {
-        Op::Run => run(rt, session_name, state_name, names, terms),
-        _ => tell(rt, op),
+    match night_commit::prepare(rt, places.state) {
+        Op::Run => run(rt, session_name, places, terms),
+        end => Err(refusal_of(end)),
     }
 }
 
@@ -323,52 +313,49 @@ fn call(
 fn call_logged(
     rt: &(impl Files + Env + Print),
     session_name: &[u8],
-    state_name: &[u8],
-    names: &[u8],
+    places: Places,
     terms: Terms,
-) {
-    if terms.log == 0 {
-        call(rt, session_name, state_name, names, terms);
-        return;
-    }
+) -> Result<(), Refusal> {
+    let Some(log) = terms.options.log else {
+        return call(rt, session_name, places, terms);
+    };
     let mut log_name = io::buffer();
-    let n = host::argument(rt, terms.log as usize, &mut log_name);
-    if !night_names::is_further(&log_name[..n], session_name, state_name, names) {
-        lines::refuse(rt, 32);
-        return;
+    let n = host::argument(rt, log as usize, &mut log_name);
+    if !night_names::is_further(&log_name[..n], session_name, places.state, places.names) {
+        return Err(Refusal::Arguments);
     }
     let mut buffer = io::buffer();
-    let m = night_names::with_name(names, &log_name[..n], &mut buffer);
-    call(rt, session_name, state_name, &buffer[..m], terms);
+    let m = night_names::with_name(places.names, &log_name[..n], &mut buffer);
+    let names = &buffer[..m];
+    call(rt, session_name, Places { names, ..places }, terms)
 }
 
 // The area's name: its argument, or STATE.area.
-fn area_name(rt: &impl Env, area: u8, state_name: &[u8], buffer: &mut [u8]) -> usize
+fn area_name(rt: &impl Env, area: Option<u8>, state_name: &[u8], buffer: &mut [u8]) -> usize
     ensures { IsPrefixLen result buffer.new }
 {
-    if area == 0 {
-        return night_arguments::joined(state_name, b".area", buffer);
+    match area {
+        Some(i) => host::argument(rt, i as usize, buffer),
+        None => night_arguments::joined(state_name, b".area", buffer),
     }
-    host::argument(rt, area as usize, buffer)
 }
 
 // The same with its area.
 fn call_with_area(
     rt: &(impl Files + Env + Print),
     session_name: &[u8],
-    state_name: &[u8],
-    names: &[u8],
+    places: Places,
     terms: Terms,
-) {
+) -> Result<(), Refusal> {
     let mut name = io::buffer();
-    let n = area_name(rt, terms.area, state_name, &mut name);
-    if !night_names::is_area(&name[..n], session_name, state_name, names) {
-        lines::refuse(rt, 32);
-        return;
+    let n = area_name(rt, terms.options.area, places.state, &mut name);
+    if !night_names::is_area(&name[..n], session_name, places.state, places.names) {
+        return Err(Refusal::Arguments);
     }
     let mut buffer = io::buffer();
-    let m = night_names::with_name(names, &name[..n], &mut buffer);
-    call_logged(rt, session_name, state_name, &buffer[..m], terms);
+    let m = night_names::with_name(places.names, &name[..n], &mut buffer);
+    let names = &buffer[..m];
+    call_logged(rt, session_name, Places { names, ..places }, terms)
 }
 
 // A call on files of these names.
@@ -376,38 +363,31 @@ fn call_named(
     rt: &(impl Files + Env + Print),
     image_name: &[u8],
     session_name: &[u8],
-    state_name: &[u8],
+    state: &[u8],
     output_name: &[u8],
     terms: Terms,
-) {
-    if !night_names::are_names(image_name, session_name, state_name, output_name) {
-        lines::refuse(rt, 32);
-        return;
+) -> Result<(), Refusal> {
+    if !night_names::are_names(image_name, session_name, state, output_name) {
+        return Err(Refusal::Arguments);
     }
-    let mut names = io::buffer();
-    let n = night_names::record_names(image_name, output_name, &mut names);
-    call_with_area(rt, session_name, state_name, &names[..n], terms);
+    let mut buffer = io::buffer();
+    let n = night_names::record_names(image_name, output_name, &mut buffer);
+    let names = &buffer[..n];
+    call_with_area(rt, session_name, Places { state, names }, terms)
 }
 
 // The number that an argument is.
-fn number_at(rt: &impl Env, i: usize) -> Number {
-    let mut text = [0u8; 16];
-    let n = host::argument(rt, i, &mut text);
-    night_arguments::read_number(&text[..n])
+fn number_at(rt: &impl Env, i: usize) -> Result<u32, Refusal> {
+    host::argument_as(rt, i, night_arguments::read_number).ok_or(Refusal::Arguments)
 }
 
-// The call whose six names begin at this argument.
-fn read_names(rt: &(impl Files + Env + Print), first: u8, area: u8, log: u8) {
-    let at = first as usize;
-    let n = number_at(rt, at + 2);
-    let r = number_at(rt, at + 3);
-    let Number::Is(cycles) = n else {
-        lines::refuse(rt, 32);
-        return;
-    };
-    let Number::Is(start) = r else {
-        lines::refuse(rt, 32);
-        return;
+// The call that the arguments are.
+fn call_of(rt: &(impl Files + Env + Print), arguments: Call) -> Result<(), Refusal> {
+    let at = arguments.names as usize;
+    let terms = Terms {
+        n: number_at(rt, at + 2)?,
+        r: number_at(rt, at + 3)?,
+        options: arguments.options,
     };
     let mut image = io::buffer();
     let a = host::argument(rt, at, &mut image);
@@ -417,12 +397,6 @@ fn read_names(rt: &(impl Files + Env + Print), first: u8, area: u8, log: u8) {
     let c = host::argument(rt, at + 4, &mut state);
     let mut output = io::buffer();
     let d = host::argument(rt, at + 5, &mut output);
-    let terms = Terms {
-        n: cycles,
-        r: start,
-        area: area,
-        log: log,
-    };
     call_named(
         rt,
         &image[..a],
@@ -430,37 +404,40 @@ fn read_names(rt: &(impl Files + Env + Print), first: u8, area: u8, log: u8) {
         &state[..c],
         &output[..d],
         terms,
-    );
+    )
 }
 
 // What an argument is.
-fn kind_at(rt: &impl Env, i: usize) -> u8 {
+fn kind_at(rt: &impl Env, i: usize) -> Kind {
     let mut text = io::buffer();
     let n = host::argument(rt, i, &mut text);
     night_arguments::kind_of(&text[..n])
 }
 
 // What the arguments are, the program's own name left out, as far as the buffer goes.
-fn read_kinds(rt: &impl Env, kinds: &mut [u8]) -> usize {
-    let mut i = 0usize;
-    while i < kinds.len() {
+fn read_kinds(rt: &impl Env, kinds: &mut [Kind]) -> usize
+    ensures { result ≤ length kinds.new }
+{
+    for i in 0..kinds.len() {
         if !host::has_argument(rt, i + 1) {
             return i;
         }
         kinds[i] = kind_at(rt, i + 1);
-        i = i + 1;
     }
-    i
+    kinds.len()
+}
+
+fn answer(rt: &(impl Files + Env + Print)) -> Result<(), Refusal> {
+    let mut kinds = [Kind::Name; 33];
+    let n = read_kinds(rt, &mut kinds);
+    match night_arguments::read_call(&kinds[..n]) {
+        Some(arguments) => call_of(rt, arguments),
+        None => Err(Refusal::Arguments),
+    }
 }
 
 fn main(rt: HostRuntime) {
-    let mut kinds = [0u8; 33];
-    let n = read_kinds(&rt, &mut kinds);
-    let mut values = [0u8; 2];
-    let first = night_arguments::read_call(cabinet::filled(&kinds, n), &mut values);
-    if first == 0 {
-        lines::refuse(&rt, 32);
-        return;
+    if let Err(refusal) = answer(&rt) {
+        lines::refuse(&rt, refusal.number());
     }
-    read_names(&rt, first, values[0], values[1]);
 }
