@@ -5,19 +5,17 @@
 use boundary::Watch;
 use counts::Cycles;
 use machine::Machine;
-use night_arguments::Number;
 use night_slices::Night;
 use printing::Line;
 
 fn show_number(rt: &impl Print, text: &[u8]) {
-    let number = night_arguments::read_number(text);
-    match number {
-        Number::Is(n) => Line::empty()
+    match night_arguments::read_number(text) {
+        Some(n) => Line::empty()
             .text(b"number ")
             .decimal(n as u64)
             .text(b"\n")
             .print(rt),
-        Number::No => Line::empty().text(b"no number\n").print(rt),
+        None => Line::empty().text(b"no number\n").print(rt),
     }
 }
 

@@ -1,5 +1,5 @@
 -- A night: a long run as slices, one after another, each with the rest of the session that the one before left.
-use Rattle.std.specs.Prelude.{ℕ, ◌+◌, ◌-◌, ◌%◌, ◌^◌, min, Bool, cond, ◌&&◌, List, ◌++◌, length, take, drop, ◌==◌, nat_lt}
+use Rattle.std.specs.Prelude.{ℕ, ◌+◌, ◌-◌, ◌%◌, ◌^◌, min, Bool, cond, ◌&&◌, List, ◌++◌, length, take, drop, ◌==◌, nat_lt, Result, Ok, Err}
 use Rattle.std.proofs.Math.Option.{none}
 use Rattle.turns.specs.Turn.{Turn, more, done, loop_of}
 use Rattle.replies.specs.Replies.{Told, told, told_reply, stops}
@@ -14,8 +14,9 @@ use Rattle.rest.specs.Answers.{RestReply, rest_wrote, refuses, rest_answer}
 use Rattle.lines.specs.declared.Numbers.{Numbers}
 use Rattle.printing.specs.Printing.{ascii}
 use Rattle.night_lines.specs.NightLines.{end_text}
-use Rattle.night_slices.specs.declared.SliceEnd.{SliceEnd}
-use Rattle.night_slices.specs.declared.SliceEnd.TheVariants as ended
+use Rattle.replies.specs.declared.Reply.{Reply}
+use Rattle.night_slices.specs.declared.KeepRefusal.{KeepRefusal}
+use Rattle.night_slices.specs.declared.KeepRefusal.TheVariants.{TooFew, NoRoom}
 use Rattle.night_slices.specs.declared.Kept.{Kept}
 use Rattle.night_slices.specs.declared.Night.{Night}
 
@@ -137,10 +138,13 @@ night_text s =
     ++ ascii "\n"
 
 -- the code's results, in these words: the session is the first so many bytes of its buffer
+abbrev pub SliceEnd : Type 0
+SliceEnd = Result Reply KeepRefusal
+
 abbrev pub told_slice_end : SliceEnd → Told
-told_slice_end (ended.Ran r) = told_reply r
-told_slice_end ended.TooFew = told 30 none
-told_slice_end ended.NoRoom = told 31 none
+told_slice_end (Ok r) = told_reply r
+told_slice_end (Err TooFew) = told 30 none
+told_slice_end (Err NoRoom) = told 31 none
 
 abbrev pub kept : Kept → List ℕ → Keeping
 kept k session = keeping (told_slice_end k.ended) (take k.length session)

@@ -18,17 +18,18 @@ use printing::Line;
 use registers::Registers;
 use replies::Reply;
 use rest::RestRefusal;
-use std::num::wrapping_add_u64;
 
-// How a slice ended: with the run's reply, or the session has fewer records than were used, or there is no room for the rest.
+// Why a slice's rest is not kept: the session has fewer records than were used, or there is no room.
 #[derive(Clone, Copy)]
-pub enum SliceEnd {
-    Ran(Reply),
+pub enum KeepRefusal {
     TooFew,
     NoRoom,
 }
 
-// The sums of the slices' counts.
+// How a slice ended: with the run's reply, where its rest is kept.
+pub type SliceEnd = Result<Reply, KeepRefusal>;
+
+// The sums of the slices' counts, a type each, so that one cannot be taken for another.
 #[derive(Clone, Copy)]
 pub struct NightSlices(pub u64);
 
@@ -73,24 +74,18 @@ struct Kept {
     length: usize,
 }
 
-fn least(a: usize, b: usize) -> usize
-    ensures { result ≡ min a b }
-{
-    if a < b { a } else { b }
-}
-
 // The cycles of the next slice.
 pub fn slice_of(left: u32) -> u32
     ensures { result ≡ slice_cycles left }
 {
-    if left < 1000000000 { left } else { 1000000000 }
+    left.min(1000000000)
 }
 
 // The cycles that are left after a slice, and 0 where that would be below 0.
 pub fn left_after(left: u32, cycles: Cycles) -> u32
     ensures { result ≡ left - cycles.0 }
 {
-    if left < cycles.0 { 0 } else { left - cycles.0 }
+    left.saturating_sub(cycles.0)
 }
 
 // A slice's line.
@@ -127,7 +122,7 @@ fn keep(
 {
     if !reply.is_stop() {
         return Kept {
-            ended: SliceEnd::Ran(reply),
+            ended: Ok(reply),
             length: size,
         };
     }
@@ -136,20 +131,20 @@ fn keep(
         Ok(n) => {
             numbers::copy(&spare[..n], session);
             Kept {
-                ended: SliceEnd::Ran(reply),
+                ended: Ok(reply),
                 length: n,
             }
         }
         Err(RestRefusal::Bad(fault)) => Kept {
-            ended: SliceEnd::Ran(Reply::from(fault)),
+            ended: Ok(Reply::from(fault)),
             length: size,
         },
         Err(RestRefusal::TooFew) => Kept {
-            ended: SliceEnd::TooFew,
+            ended: Err(KeepRefusal::TooFew),
             length: size,
         },
         Err(RestRefusal::NoRoom) => Kept {
-            ended: SliceEnd::NoRoom,
+            ended: Err(KeepRefusal::NoRoom),
             length: size,
         },
     }
@@ -158,21 +153,13 @@ fn keep(
 fn stops_with(ended: SliceEnd) -> bool
     ensures { result ≡ stops (told_slice_end ended).number }
 {
-    match ended {
-        SliceEnd::TooFew => false,
-        SliceEnd::NoRoom => false,
-        SliceEnd::Ran(reply) => reply.is_stop(),
-    }
+    ended.is_ok_and(|reply| reply.is_stop())
 }
 
 fn at_limit(ended: SliceEnd) -> bool
     ensures { result ≡ ((told_slice_end ended).number == 0) }
 {
-    match ended {
-        SliceEnd::TooFew => false,
-        SliceEnd::NoRoom => false,
-        SliceEnd::Ran(reply) => reply.number() == 0,
-    }
+    ended.is_ok_and(|reply| reply.number() == 0)
 }
 
 // What a night that ended so tells.
@@ -180,9 +167,9 @@ fn closing(ended: SliceEnd, slices: u64, n: Numbers, leaps: u64, c: Registers) -
     ensures { result ≡ puts_of empty_line (end_text (told_slice_end ended) slices n leaps c) }
 {
     match ended {
-        SliceEnd::TooFew => lines::refused(30),
-        SliceEnd::NoRoom => lines::refused(31),
-        SliceEnd::Ran(reply) => night_lines::end_line(reply, slices, n, leaps, c),
+        Err(KeepRefusal::TooFew) => lines::refused(30),
+        Err(KeepRefusal::NoRoom) => lines::refused(31),
+        Ok(reply) => night_lines::end_line(reply, slices, n, leaps, c),
     }
 }
 
@@ -192,11 +179,11 @@ impl Night {
         ensures { result ≡ beginning ended m size n watch }
     {
         Night {
-            ended: ended,
+            ended,
             machine: m,
             length: size,
             left: n,
-            watch: watch,
+            watch,
             sent: 0,
             logged: 0,
             slices: NightSlices(0),
@@ -215,26 +202,25 @@ impl Night {
         ensures { result ≡ next_of self leapt kept }
     {
         let ran = leapt.ran;
-        let ended = kept.ended;
-        let machine = ran.machine;
         let watch = self.watch;
         Night {
-            ended: ended,
-            machine: machine,
+            ended: kept.ended,
+            machine: ran.machine,
             length: kept.length,
             left: left_after(self.left, ran.counts.cycles),
             watch: watch.later(ran.counts.cycles),
             sent: self.sent + ran.counts.sent.0,
             logged: self.logged + watch.logged(ran.counts.entries),
-            slices: NightSlices(wrapping_add_u64(self.slices.0, 1)),
-            cycles: NightCycles(wrapping_add_u64(self.cycles.0, ran.counts.cycles.0 as u64)),
-            instructions: NightInstructions(wrapping_add_u64(
-                self.instructions.0,
-                ran.counts.instructions.0 as u64,
-            )),
-            entries: NightEntries(wrapping_add_u64(self.entries.0, ran.counts.entries.0 as u64)),
-            used: NightRecords(wrapping_add_u64(self.used.0, ran.counts.used.0 as u64)),
-            leaps: NightLeaps(wrapping_add_u64(self.leaps.0, leapt.leaps.0 as u64)),
+            slices: NightSlices(self.slices.0.wrapping_add(1)),
+            cycles: NightCycles(self.cycles.0.wrapping_add(ran.counts.cycles.0 as u64)),
+            instructions: NightInstructions(
+                self.instructions
+                    .0
+                    .wrapping_add(ran.counts.instructions.0 as u64),
+            ),
+            entries: NightEntries(self.entries.0.wrapping_add(ran.counts.entries.0 as u64)),
+            used: NightRecords(self.used.0.wrapping_add(ran.counts.used.0 as u64)),
+            leaps: NightLeaps(self.leaps.0.wrapping_add(leapt.leaps.0 as u64)),
         }
     }
 
@@ -242,16 +228,14 @@ impl Night {
     fn goes_on(self) -> bool
         ensures { result ≡ goes_on (standing self (lent [] [] []) []) }
     {
-        let ended = self.ended;
-        at_limit(ended) & (self.left > 0)
+        at_limit(self.ended) & (self.left > 0)
     }
 
     // Whether the night ran and stopped, with 0, 8, 9 or 11: it was not refused.
     pub fn has_stopped(self) -> bool
         ensures { result ≡ stops (told_slice_end self.ended).number }
     {
-        let ended = self.ended;
-        stops_with(ended)
+        stops_with(self.ended)
     }
 
     // The night's line.
@@ -265,9 +249,8 @@ impl Night {
             used: self.used.0,
             sent: self.sent as u64,
         };
-        let ended = self.ended;
         closing(
-            ended,
+            self.ended,
             self.slices.0,
             n,
             self.leaps.0,
@@ -309,10 +292,17 @@ fn slice(
         &mut output[sent..],
         &mut log[logged..],
     );
-    announce(rt, wrapping_add_u64(night.slices.0, 1), leapt);
+    announce(rt, night.slices.0.wrapping_add(1), leapt);
     let ran = leapt.ran;
     let reply = ran.reply;
-    let kept = keep(session, size, reply, ran.counts.used, ran.counts.cycles, spare);
+    let kept = keep(
+        session,
+        size,
+        reply,
+        ran.counts.used,
+        ran.counts.cycles,
+        spare,
+    );
     night.after(leapt, kept)
 }
 
@@ -335,11 +325,11 @@ pub fn run_night(
         ≡ night_of (watching (take size session.old) n watch) m
         (lending image.old area.old output.old log.old) (length spare.old) }
 {
-    let size = least(size, session.len());
+    let size = size.min(session.len());
     if spare.len() < size {
-        return Night::start(SliceEnd::NoRoom, m, size, n, watch);
+        return Night::start(Err(KeepRefusal::NoRoom), m, size, n, watch);
     }
-    let mut night = Night::start(SliceEnd::Ran(Reply::Limit), m, size, n, watch);
+    let mut night = Night::start(Ok(Reply::Limit), m, size, n, watch);
     loop {
         night = slice(rt, image, area, session, output, log, spare, night);
         if !night.goes_on() {

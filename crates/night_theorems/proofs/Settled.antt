@@ -11,10 +11,10 @@ use Rattle.replies.specs.declared.Reply.TheVariants.{Limit, WrongImage, WrongMac
 use Rattle.replies.proofs.Known.{reply_known}
 use Rattle.machine.specs.declared.Machine.{Machine}
 use Rattle.boundary.specs.World.{Lent, Terms}
-use Rattle.night_slices.specs.declared.SliceEnd.{SliceEnd}
-use Rattle.night_slices.specs.declared.SliceEnd.TheVariants.{Ran, TooFew, NoRoom}
+use Rattle.std.specs.Prelude.{Ok, Err}
+use Rattle.night_slices.specs.declared.KeepRefusal.TheVariants.{TooFew, NoRoom}
 use Rattle.night_slices.specs.declared.Night.{Night}
-use Rattle.night_slices.specs.Slices.{Standing, told_slice_end, standing, night_of}
+use Rattle.night_slices.specs.Slices.{Standing, SliceEnd, told_slice_end, standing, night_of}
 
 -- how a slice ended is known by what it tells
 run_number : (r : Reply) → (told_reply r).number < 30
@@ -35,15 +35,15 @@ apart : {R : Type 0} (a b : Told) → a ≡ b → a.number < 30 → 30 ≤ b.num
 apart a b e l h = let n = ap (λ (t : Told). t.number) e in absurd (let z : ⊥ = omega arith in z)
 
 end_known : (a b : SliceEnd) → told_slice_end a ≡ told_slice_end b → a ≡ b
-end_known (Ran r) (Ran q) e = ap Ran (reply_known r q e)
-end_known (Ran r) TooFew e = apart _ _ e (run_number r) (omega arith)
-end_known (Ran r) NoRoom e = apart _ _ e (run_number r) (omega arith)
-end_known TooFew (Ran r) e = apart _ _ (sym e) (run_number r) (omega arith)
-end_known TooFew TooFew e = refl
-end_known TooFew NoRoom e = absurd (let n = ap (λ (t : Told). t.number) e in let z : ⊥ = omega arith in z)
-end_known NoRoom (Ran r) e = apart _ _ (sym e) (run_number r) (omega arith)
-end_known NoRoom TooFew e = absurd (let n = ap (λ (t : Told). t.number) e in let z : ⊥ = omega arith in z)
-end_known NoRoom NoRoom e = refl
+end_known (Ok r) (Ok q) e = ap Ok (reply_known r q e)
+end_known (Ok r) (Err TooFew) e = apart _ _ e (run_number r) (omega arith)
+end_known (Ok r) (Err NoRoom) e = apart _ _ e (run_number r) (omega arith)
+end_known (Err TooFew) (Ok r) e = apart _ _ (sym e) (run_number r) (omega arith)
+end_known (Err TooFew) (Err TooFew) e = refl
+end_known (Err TooFew) (Err NoRoom) e = absurd (let n = ap (λ (t : Told). t.number) e in let z : ⊥ = omega arith in z)
+end_known (Err NoRoom) (Ok r) e = apart _ _ (sym e) (run_number r) (omega arith)
+end_known (Err NoRoom) (Err TooFew) e = absurd (let n = ap (λ (t : Told). t.number) e in let z : ⊥ = omega arith in z)
+end_known (Err NoRoom) (Err NoRoom) e = refl
 
 -- a result, with what was lent and the session's buffer as they are left
 pub record NightLeft : Type 0 where

@@ -11,7 +11,7 @@ returns-then-spare-size g c =
     let a = c.args in
     let given = lending a.image.now a.area.now a.output.now a.log.now in
     ap (λ (n : Night). standing n given a.session.now) c.start.ensures
-    ∙ night_refused a.session.now a.size a.n a.watch a.m given (length a.spare.now) c.least-size.ensures c.if-spare-size.true
+    ∙ night_refused a.session.now a.size a.n a.watch a.m given (length a.spare.now) c.min-size.ensures c.if-spare-size.true
 
 pub returns-then-not-goes_on : goal.returns-then-not-goes_on
 returns-then-not-goes_on g c =
@@ -25,7 +25,7 @@ returns-then-not-goes_on g c =
     ∙ sym (slices_done began goes)
     ∙ sym l.invariant.0
     ∙ ap (λ (n : Night). slices_of (standing n given a.session.now)) c.start-night.ensures
-    ∙ night_runs a.session.now a.size a.n a.watch a.m given (length a.spare.now) c.least-size.ensures c.if-spare-size.false
+    ∙ night_runs a.session.now a.size a.n a.watch a.m given (length a.spare.now) c.min-size.ensures c.if-spare-size.false
 
 pub loop-night-smaller : goal.loop-night-smaller
 loop-night-smaller g c =
