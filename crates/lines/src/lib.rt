@@ -1,5 +1,5 @@
 // The words that the programs' lines share: counts, registers and refusals.
-#![tactic(auto)]
+#![tactic(auto, using(printing::proofs::Laws::puts_then))]
 
 ghost use Rattle.std.specs.Prelude.{◌≡◌, ◌++◌};
 ghost use Rattle.std.proofs.Math.Option.{none, some};
@@ -79,6 +79,7 @@ pub fn registers(line: Line, c: Registers) -> Line
     with_byte(sp, b" cc ", u8::from(c.codes))
 }
 
+#[tactic(auto, unfolding(crate::specs::Lines::refused_text))]
 pub fn refused(number: u8) -> Line
     ensures { result ≡ puts_of empty_line (refused_text number none) }
 {
@@ -95,11 +96,12 @@ pub fn refused_record(number: u8, named: usize) -> Line
 pub fn refusal_line(reply: Reply) -> Line
     ensures { result ≡ puts_of empty_line (refusal (told_reply reply)) }
 {
-    let number = reply.number();
-    if (number >= 4) & (number <= 7) {
-        return refused_record(number, reply.record());
+    match reply {
+        Reply::Length(k) | Reply::Kind(k) | Reply::Value(k) | Reply::Time(k) => {
+            refused_record(reply.number(), k)
+        }
+        _ => refused(reply.number()),
     }
-    refused(number)
 }
 
 // The refusal with this number is printed, as a line of its own.

@@ -26,9 +26,8 @@ impl Line {
     pub fn put(mut self, byte: u8) -> Line
         ensures { result ≡ put_of self byte }
     {
-        let at = self.length;
-        self.bytes[at as usize] = byte;
-        self.length = ((at as u16 + 1) % 256) as u8;
+        self.bytes[self.length as usize] = byte;
+        self.length = self.length.wrapping_add(1);
         self
     }
 

@@ -14,4 +14,4 @@ no_name : (line : Line) (k : ℕ) → 6 ≤ k → line ≡ puts_of line (cause_n
 no_name line k h = puts_none line ∙ ap (puts_of line) (sym (get_or-eq_default cause_names [] h))
 
 pub returns-in_default : goal.returns-in_default
-returns-in_default c = let r = c.in_default.in_default-own.rest in no_name _ c.args.cause (omega (arith, r))
+returns-in_default c = no_name _ c.args.cause (omega arith)

@@ -1,6 +1,0 @@
--- `with_byte` meets its contract: the word, and then the byte. Assumes nothing.
-use Rattle.printing.proofs.Laws.{puts_then}
-use Rattle.lines.proofs.with_byte.Goals as goal
-
-pub returns : goal.returns
-returns c = puts_then _ _ _ c.text.ensures c.byte.ensures
