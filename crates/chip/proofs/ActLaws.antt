@@ -35,6 +35,9 @@ pub by_write : (at v : ℕ) (o : Moment) (m : Memories) {c : Moment} {n : Memori
 unfolding run write
 by_write at v o m e d = λ i. out tt (sym e i) (sym d i)
 
+-- what shows a function that makes accesses
+pub ruleset accesses = (after, ends, by_read, by_write)
+
 -- a whole instruction, by what it begins with, what its tree comes to, and what the rest of its cycles leaves
 pub whole : {A : Type 0} (ks : List ℕ) (n : ℕ) (t : Act A) (b : Bus) (m : Memories) {ls : List ℕ} {o : Moment} {p : Out A} {u : Bus}
     → ls ≡ ks → o ≡ begun ls b → run t o m ≡ p → u ≡ ended n p.units → timed ks n t b m ≡ end p.value u p.memory

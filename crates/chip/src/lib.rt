@@ -38,6 +38,7 @@ pub struct Core {
 }
 
 // Two bytes, the high one first.
+#[tactic(auto, using(crate::proofs::ActLaws::accesses), unfolding(crate::specs::Instructions::read2))]
 fn read_word(b: Clocked, image: &[u8], area: &[u8], at: u16) -> Read<u16, Clocked>
     ensures { run (read2 at) (moment_of b) (memories image.now area.now)
         ≡ out result.value (moment_of result.next) (memories image.now area.now) }
@@ -50,6 +51,7 @@ fn read_word(b: Clocked, image: &[u8], area: &[u8], at: u16) -> Read<u16, Clocke
     }
 }
 
+#[tactic(auto, using(crate::proofs::ActLaws::accesses), unfolding(crate::specs::Instructions::write2))]
 fn write_word(b: Clocked, image: &mut [u8], area: &mut [u8], at: u16, w: u16) -> Clocked
     ensures { run (write2 at w) (moment_of b) (memories image.old area.old)
         ≡ out tt (moment_of result) (memories image.new area.new) }
@@ -71,6 +73,7 @@ fn spot_at(at: u16, c: Registers, b: Clocked, n: u16) -> Read<u16, Core>
 
 impl Core {
     // Where the operand is.
+    #[tactic(auto, using(crate::proofs::ActLaws::accesses), unfolding(crate::specs::Instructions::operand))]
     fn locate(self, place: Place, image: &[u8], area: &[u8]) -> Read<u16, Core>
         ensures { run_on (operand place) self (memories image.now area.now)
             ≡ located result (memories image.now area.now) }
@@ -107,6 +110,7 @@ impl Core {
 
 // The stack.
 impl Core {
+    #[tactic(auto, using(crate::proofs::ActLaws::accesses), unfolding(crate::specs::Instructions::push))]
     fn push(self, v: u8, image: &mut [u8], area: &mut [u8]) -> Core
         ensures { run_on (push v) self (memories image.old area.old) ≡ ran result (memories image.new area.new) }
     {
@@ -118,6 +122,7 @@ impl Core {
         }
     }
 
+    #[tactic(auto, using(crate::proofs::ActLaws::accesses), unfolding(crate::specs::Instructions::push2))]
     fn push_word(self, w: u16, image: &mut [u8], area: &mut [u8]) -> Core
         ensures { run_on (push2 w) self (memories image.old area.old)
             ≡ ran result (memories image.new area.new) }
@@ -126,6 +131,7 @@ impl Core {
         p.push(bits::upper(w), image, area)
     }
 
+    #[tactic(auto, using(crate::proofs::ActLaws::accesses), unfolding(crate::specs::Instructions::pull))]
     fn pull(self, image: &[u8], area: &[u8]) -> Read<u8, Core>
         ensures { run_on pull self (memories image.now area.now)
             ≡ popped result (memories image.now area.now) }
@@ -142,6 +148,7 @@ impl Core {
         }
     }
 
+    #[tactic(auto, using(crate::proofs::ActLaws::accesses), unfolding(crate::specs::Instructions::pull2))]
     fn pull_word(self, image: &[u8], area: &[u8]) -> Read<u16, Core>
         ensures { run_on pull2 self (memories image.now area.now)
             ≡ popped result (memories image.now area.now) }
@@ -155,6 +162,7 @@ impl Core {
     }
 
     // All registers, PC first.
+    #[tactic(auto, using(crate::proofs::ActLaws::accesses), unfolding(crate::specs::Instructions::stack_all))]
     fn stack_all(self, image: &mut [u8], area: &mut [u8]) -> Core
         ensures { run_on stack_all self (memories image.old area.old) ≡ ran result (memories image.new area.new) }
     {
@@ -190,6 +198,7 @@ impl Core {
     }
 
     // I set, PC from a vector, no wait.
+    #[tactic(auto, using(crate::proofs::ActLaws::accesses), unfolding(crate::specs::Instructions::vectored))]
     fn vectored(self, vector: u16, image: &[u8], area: &[u8]) -> Core
         ensures { run_on (vectored vector) self (memories image.now area.now)
             ≡ ran result (memories image.now area.now) }
@@ -206,6 +215,7 @@ impl Core {
         }
     }
 
+    #[tactic(auto, using(crate::proofs::ActLaws::accesses), unfolding(crate::specs::Instructions::swi))]
     fn swi(self, image: &mut [u8], area: &mut [u8]) -> Core
         ensures { run_on swi self (memories image.old area.old) ≡ ran result (memories image.new area.new) }
     {
@@ -213,6 +223,7 @@ impl Core {
         p.vectored(tables::address_of(Vector::Swi), image, area)
     }
 
+    #[tactic(auto, using(crate::proofs::ActLaws::accesses), unfolding(crate::specs::Instructions::wai))]
     fn wai(self, image: &mut [u8], area: &mut [u8]) -> Core
         ensures { run_on wai self (memories image.old area.old) ≡ ran result (memories image.new area.new) }
     {
@@ -224,6 +235,7 @@ impl Core {
     }
 
     // Interrupt entry.
+    #[tactic(auto, using(crate::proofs::Entry::enter_waiting, crate::proofs::Entry::enter_stacking))]
     fn enter(self, vector: u16, image: &mut [u8], area: &mut [u8]) -> Core
         ensures { run_on (enter vector) self (memories image.old area.old)
             ≡ ran result (memories image.new area.new) }
@@ -247,6 +259,7 @@ impl Core {
         }
     }
 
+    #[tactic(auto, using(crate::proofs::ActLaws::accesses), unfolding(crate::specs::Shapes::loads))]
     fn load(self, op: Loading, at: u16, image: &[u8], area: &[u8]) -> Core
         ensures { run_on (loads op at) self (memories image.now area.now)
             ≡ ran result (memories image.now area.now) }
@@ -259,6 +272,7 @@ impl Core {
         }
     }
 
+    #[tactic(auto, using(crate::proofs::ActLaws::accesses), unfolding(crate::specs::Shapes::loads_word))]
     fn load_word(self, op: LoadingWord, at: u16, image: &[u8], area: &[u8]) -> Core
         ensures { run_on (loads_word op at) self (memories image.now area.now)
             ≡ ran result (memories image.now area.now) }
@@ -271,6 +285,7 @@ impl Core {
         }
     }
 
+    #[tactic(auto, using(crate::proofs::ActLaws::accesses), unfolding(crate::specs::Shapes::stores))]
     fn store(self, op: Storing, at: u16, image: &mut [u8], area: &mut [u8]) -> Core
         ensures { run_on (stores op at) self (memories image.old area.old)
             ≡ ran result (memories image.new area.new) }
@@ -283,6 +298,7 @@ impl Core {
         }
     }
 
+    #[tactic(auto, using(crate::proofs::ActLaws::accesses), unfolding(crate::specs::Shapes::stores_word))]
     fn store_word(self, op: WideStore, at: u16, image: &mut [u8], area: &mut [u8]) -> Core
         ensures { run_on (stores_word op at) self (memories image.old area.old)
             ≡ ran result (memories image.new area.new) }
@@ -296,6 +312,7 @@ impl Core {
     }
 
     // Read, modify, write.
+    #[tactic(auto, using(crate::proofs::ActLaws::accesses), unfolding(crate::specs::Shapes::modifies))]
     fn modify(self, op: Monadic, at: u16, image: &mut [u8], area: &mut [u8]) -> Core
         ensures { run_on (modifies op at) self (memories image.old area.old)
             ≡ ran result (memories image.new area.new) }
@@ -310,6 +327,7 @@ impl Core {
         }
     }
 
+    #[tactic(auto, using(crate::proofs::ActLaws::accesses), unfolding(crate::specs::Shapes::pushes_word))]
     fn push_of(self, op: Pushing, at: u16, image: &mut [u8], area: &mut [u8]) -> Core
         ensures { run_on (pushes_word op at) self (memories image.old area.old)
             ≡ ran result (memories image.new area.new) }
@@ -324,6 +342,7 @@ impl Core {
 
 // The instruction.
 impl Core {
+    #[tactic(auto, using(crate::proofs::Shapes::operated), unfolding(crate::specs::Shapes::shaped))]
     fn operate(
         self,
         operation: Operation,
@@ -362,6 +381,7 @@ impl Core {
         }
     }
 
+    #[tactic(auto, using(crate::proofs::ActLaws::accesses), unfolding(crate::specs::Instructions::execute))]
     fn execute(self, i: Instruction, image: &mut [u8], area: &mut [u8]) -> Core
         ensures { run_on (execute i) self (memories image.old area.old)
             ≡ ran result (memories image.new area.new) }
@@ -396,6 +416,7 @@ impl Chip {
         }
     }
 
+    #[tactic(auto, using(crate::proofs::ActLaws::whole))]
     pub fn execute(self, i: Instruction, image: &mut [u8], area: &mut [u8]) -> Chip
         ensures { timed_on (access_cycles i.operation i.place) i.cycles (execute i) self (memories image.old area.old)
             ≡ left result (memories image.new area.new) }
@@ -406,6 +427,7 @@ impl Chip {
     }
 
     // Interrupt entry, in so many cycles.
+    #[tactic(auto, using(crate::proofs::ActLaws::whole))]
     pub fn enter(self, vector: u16, cycles: u8, image: &mut [u8], area: &mut [u8]) -> Chip
         ensures { timed_on (entry_accesses self.registers.waiting) cycles (enter vector) self (memories image.old area.old)
             ≡ left result (memories image.new area.new) }

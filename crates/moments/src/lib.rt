@@ -8,7 +8,7 @@ ghost use Rattle.moments.specs.Moment.{begun, next, read_now, write_now, read_at
 ghost use Rattle.moments.specs.Clocked.{lag, moment_of, read_on};
 
 use bits::Read;
-use bus::{Bus, held};
+use bus::{Bus, Low, held};
 
 // `cycle`: how many cycles of the instruction have passed. `shown`: how many of them the units have seen; they are shown the others before an access that
 // can tell, one below $20, and at the instruction's end. `ahead`: the cycle of each access to come, a digit in base 16 each, the next one last.
@@ -56,12 +56,11 @@ impl Clocked {
     }
 
     // A read below $20, now.
-    fn read_low(self, image: &[u8], at: u16) -> Read<u8, Clocked>
-        requires { at < 32 }
-        ensures { (area : List ℕ) → read_on result ≡ read_now (memories image.now area) at (moment_of self) }
+    fn read_low(self, image: &[u8], low: Low) -> Read<u8, Clocked>
+        ensures { (area : List ℕ) → read_on result ≡ read_now (memories image.now area) low.at (moment_of self) }
     {
         let c = self.catch_up();
-        let f = c.bus.read_low(image, at);
+        let f = c.bus.read_low(image, low);
         Read {
             value: f.value,
             next: Clocked { bus: f.next, ..c },
@@ -69,13 +68,12 @@ impl Clocked {
     }
 
     // A write below $20, now.
-    fn write_low(self, image: &mut [u8], at: u16, v: u8) -> Clocked
-        requires { at < 32 }
-        ensures fact_1 { moment_of result ≡ write_now at v (moment_of self) }
-        ensures fact_2 { ((area : List ℕ) → memories image.new area ≡ store_of (moment_of self).bus at v (memories image.old area)) }
+    fn write_low(self, image: &mut [u8], low: Low, v: u8) -> Clocked
+        ensures fact_1 { moment_of result ≡ write_now low.at v (moment_of self) }
+        ensures fact_2 { ((area : List ℕ) → memories image.new area ≡ store_of (moment_of self).bus low.at v (memories image.old area)) }
     {
         let c = self.catch_up();
-        let bus = c.bus.write_low(image, at, v);
+        let bus = c.bus.write_low(image, low, v);
         Clocked { bus, ..c }
     }
 
@@ -84,8 +82,8 @@ impl Clocked {
         ensures { read_on result ≡ read_at (memories image.now area.now) at (moment_of self) }
     {
         let c = self.advance();
-        if at < 32 {
-            return c.read_low(image, at);
+        if let Some(low) = Low::find(at) {
+            return c.read_low(image, low);
         }
         Read {
             value: held(image, area, c.bus.rame, at),
@@ -98,8 +96,8 @@ impl Clocked {
         ensures { (area : List ℕ) → moment_of result ≡ (read_at (memories image.now area) at (moment_of self)).next }
     {
         let c = self.advance();
-        if at < 32 {
-            return c.read_low(image, at).next;
+        if let Some(low) = Low::find(at) {
+            return c.read_low(image, low).next;
         }
         c
     }
@@ -109,8 +107,8 @@ impl Clocked {
         ensures fact_2 { memories image.new area.new ≡ stored_at at v (moment_of self) (memories image.old area.old) }
     {
         let c = self.advance();
-        if at < 32 {
-            return c.write_low(image, at, v);
+        if let Some(low) = Low::find(at) {
+            return c.write_low(image, low, v);
         }
         c.bus.write_high(image, area, at, v);
         c

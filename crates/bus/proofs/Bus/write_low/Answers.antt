@@ -8,14 +8,14 @@ use Rattle.bus.proofs.Bus.write_low.Goals as goal
 pub returns : goal.returns
 unfolding write_of
 returns c = let a = c.args in
-    let low = c.requires in record {
+    let low = c.args.low.below in record {
       fact_1 = rw (c.write_register.ensures, c.register_at-which.ensures);
-      fact_2 = λ area. image_store a.self a.at a.v a.image.now _ area (c.is_memory.result && c.is_writable.result)
+      fact_2 = λ area. image_store a.self a.low.at a.v a.image.now _ area (c.is_memory.result && c.is_writable.result)
           c.store.ensures
           (rw (
             c.is_memory.ensures,
             c.is_writable.ensures,
             c.register_at-which.ensures,
           ))
-          (outside_no_area a.self.rame a.at (λ h. omega arith));
+          (outside_no_area a.self.rame a.low.at (λ h. omega arith));
     }

@@ -6,12 +6,12 @@ use Rattle.moments.specs.Moment.{Moment, read_now, read_at}
 use Rattle.moments.proofs.Laws.{fetch_high_law}
 use Rattle.moments.proofs.Clocked.fetch.Goals as goal
 
-pub returns-then-at-lt32 : goal.returns-then-at-lt32
+pub returns-in-Some : goal.returns-in-Some
 unfolding read_at
-returns-then-at-lt32 c = λ area. let a = c.args in
-    ap (λ (r : Read ℕ Moment). r.next) (c.read_low.ensures area)
+returns-in-Some c = λ area. let a = c.args in
+    ap (λ (r : Read ℕ Moment). r.next) (rw c.in-Some.ensures at (c.read_low.ensures area))
     ∙ ap (λ (o : Moment). (read_now (memories a.image.now area) a.at o).next) c.advance-c.ensures
 
 pub returns : goal.returns
 unfolding read_at
-returns c = λ area. fetch_high_law _ _ _ _ c.advance-c.ensures c.if-at-lt32.false
+returns c = λ area. fetch_high_law _ _ _ _ c.advance-c.ensures c.in_default.ensures
