@@ -2,7 +2,7 @@
 #![tactic(auto)]
 
 ghost use Rattle.std.specs.Prelude.{◌≡◌, ℕ, ◌+◌, ◌^◌, ◌<◌, ◌≤◌, true, false, List, length};
-ghost use Rattle.boundary.specs.World.{Lent, lending, with_memories, watching, unwatched, later, logged_bytes, world_of, grown_to};
+ghost use Rattle.boundary.specs.World.{Lent, lending, with_memories, terms_of, unwatched, later, logged_bytes, world_of, grown_to};
 ghost use Rattle.boundary.specs.Boundary.{record_taken, records_of, sent_state, waited_state, row_of, lacks_row, logged_of, entered_world};
 ghost use Rattle.boundary.specs.Boundary.{executed_of, on_pending, act_of, send_of, boundary_of, turned};
 ghost use Rattle.boundary.specs.Counts.{Fine, Ready, Fits, Refuses, Accepts};
@@ -49,6 +49,14 @@ pub const UNGROWN: Grown = Grown {
 pub struct Watch {
     pub log: bool,
     pub since: Cycles,
+}
+
+// What a run is asked: its session, its limit N, and what is watched.
+#[derive(Clone, Copy)]
+pub struct Terms<'a> {
+    pub session: &'a [u8],
+    pub limit: u32,
+    pub watch: Watch,
 }
 
 #[derive(Clone, Copy)]
@@ -342,26 +350,25 @@ impl State {
     // One boundary.
     pub fn boundary(
         self,
-        session: &[u8],
-        n: u32,
-        watch: Watch,
+        terms: Terms,
         image: &mut [u8],
         area: &mut [u8],
         output: &mut [u8],
         log: &mut [u8],
     ) -> Turned
-        requires { Fine self × (n ≤ 1000000000) }
+        requires { Fine self × (terms.limit ≤ 1000000000) }
         ensures { turned result (lending image.new area.new output.new log.new)
-            ≡ boundary_of (watching session.now n watch)
+            ≡ boundary_of (terms_of terms.entry)
             (world_of self (lending image.old area.old output.old log.old)) }
     {
-        if n <= self.cycles.0 {
+        if terms.limit <= self.cycles.0 {
             return Turned {
                 state: self,
                 stop: Some(Stop::Limit),
             };
         }
-        self.apply_records(session, image, area)
+        let watch = terms.watch;
+        self.apply_records(terms.session, image, area)
             .send(watch.log, watch.since, image, area, output, log)
     }
 }

@@ -6,13 +6,12 @@ ghost use Rattle.asking.specs.Asking.{told_decoded, opcode_answer};
 ghost use Rattle.power.specs.Power.{told_power, power_answer};
 ghost use Rattle.replies.specs.Replies.{told_reply};
 ghost use Rattle.bus.specs.Access.{memories};
-ghost use Rattle.boundary.specs.declared.Watch.{Watch};
-ghost use Rattle.boundary.specs.World.{Lent, lent, lending, with_memories, terms, watching};
+ghost use Rattle.boundary.specs.World.{Lent, lent, lending, with_memories, terms, terms_of, watching};
 ghost use Rattle.boundary.specs.Start.{start_of};
 ghost use Rattle.cabinet.specs.Answers.{refusal_of, told_admission, told_stop, ended_with, end_of};
 ghost use Rattle.cabinet.specs.Answers.{report_of, answered, answer_of, leaps_of};
 
-use boundary::{State, Stop, Watch};
+use boundary::{State, Stop, Terms, Watch};
 use counts::{Counts, Cycles, Entries, Instructions, Leaps, Records, Sent};
 use machine::{Machine, PowerRefusal};
 use opcodes::Instruction;
@@ -58,9 +57,8 @@ fn start(machine: Machine) -> State
 }
 
 // The tests of 1, 12, 2 and 3, then the session from the front.
-fn admit(image: &[u8], area: &[u8], m: Machine, session: &[u8], n: u32) -> Result<(), Reply>
-    ensures { (watch : Watch) (l : Lent) → told_admission result
-        ≡ refusal_of (watching session.now n watch) m (with_memories l (memories image.now area.now)) }
+fn admit(image: &[u8], area: &[u8], m: Machine, terms: Terms) -> Result<(), Reply>
+    ensures { (l : Lent) → told_admission result ≡ refusal_of (terms_of terms.entry) m (with_memories l (memories image.now area.now)) }
 {
     if image.len() != 65536 {
         return Err(Reply::WrongImage);
@@ -71,10 +69,10 @@ fn admit(image: &[u8], area: &[u8], m: Machine, session: &[u8], n: u32) -> Resul
     if !m.in_ranges() {
         return Err(Reply::WrongMachine);
     }
-    if n > 1000000000 {
+    if terms.limit > 1000000000 {
         return Err(Reply::WrongLimit);
     }
-    session::check(session)?;
+    session::check(terms.session)?;
     Ok(())
 }
 
@@ -96,23 +94,21 @@ fn end(
     image: &mut [u8],
     area: &mut [u8],
     m: Machine,
-    session: &[u8],
-    n: u32,
-    watch: Watch,
+    terms: Terms,
     output: &mut [u8],
     log: &mut [u8],
 ) -> Ending
     ensures { ended_with result (lending image.new area.new output.new log.new)
-        ≡ end_of (watching session.now n watch) m (lending image.old area.old output.old log.old) }
+        ≡ end_of (terms_of terms.entry) m (lending image.old area.old output.old log.old) }
 {
     let start = start(m);
-    if let Err(reply) = admit(&image[..], &area[..], m, session, n) {
+    if let Err(reply) = admit(&image[..], &area[..], m, terms) {
         return Ending {
             reply,
             state: start,
         };
     }
-    let outcome = run::run(leaping, session, n, watch, image, area, output, log, start);
+    let outcome = run::run(leaping, terms, image, area, output, log, start);
     Ending {
         reply: stopped(outcome.stop),
         state: outcome.state,
@@ -163,7 +159,12 @@ pub fn watch_either(
         × (result.leaps.0
         ≡ leaps_of (watching session.now n watch) m (lending image.old area.old output.old log.old)) }
 {
-    let e = end(leaping, image, area, m, session, n, watch, output, log);
+    let terms = Terms {
+        session,
+        limit: n,
+        watch,
+    };
+    let e = end(leaping, image, area, m, terms, output, log);
     Leapt {
         ran: e.report(),
         leaps: e.state.leaps,

@@ -9,13 +9,12 @@ ghost use Rattle.serial.specs.Serial.{wants_to_send, ticks_serial};
 ghost use Rattle.timer.specs.Timer.{ticks};
 ghost use Rattle.machine.specs.Machine.{passed_of};
 ghost use Rattle.machine.specs.Interrupts.{pending_of};
-ghost use Rattle.boundary.specs.declared.Watch.{Watch};
-ghost use Rattle.boundary.specs.World.{lending, watching, world_of, ended_of, grown};
+ghost use Rattle.boundary.specs.World.{lending, terms_of, world_of, ended_of, grown};
 ghost use Rattle.boundary.specs.Boundary.{run_of};
 ghost use Rattle.boundary.specs.Counts.{Fine, Fits};
 ghost use Rattle.run.specs.Leaps.{is_due, First, stirs, AfterLeap, strode_of, Paced};
 
-use boundary::{Grown, State, Stop, UNGROWN, Watch};
+use boundary::{Grown, State, Stop, Terms, UNGROWN};
 use chip::Chip;
 use counts::{Cycles, Instructions};
 use machine::Machine;
@@ -97,28 +96,28 @@ fn interrupt_room(most: u32, m: Machine) -> u32
 }
 
 // How many cycles pass before a boundary that is more than a waiting cycle or an instruction.
-fn room(session: &[u8], n: u32, s: State) -> u32
-    requires { s.cycles.0 ≤ n }
-    ensures { First (n - s.cycles.0) result (stirs session.now s) }
+fn room(terms: Terms, s: State) -> u32
+    requires { s.cycles.0 ≤ terms.limit }
+    ensures { First (terms.entry.limit - s.cycles.0) result (stirs terms.entry.session.now s) }
 {
     let m = s.machine;
-    let a = record_room(n - s.cycles.0, session, s.cycles, s.place);
+    let a = record_room(terms.limit - s.cycles.0, terms.session, s.cycles, s.place);
     let b = send_room(a, m.chip.bus.serial);
     interrupt_room(b, m)
 }
 
 // After a waiting cycle, the rest of its leap at once: the run goes on the same, from where the leap ends.
-fn leap(session: &[u8], n: u32, s: State) -> State
-    requires { Fine s × (n ≤ 1000000000) }
-    ensures { (watch : Watch) → AfterLeap (watching session.now n watch) s result }
+fn leap(terms: Terms, s: State) -> State
+    requires { Fine s × (terms.limit ≤ 1000000000) }
+    ensures { AfterLeap (terms_of terms.entry) s result }
 {
     if !(s.inside & s.machine.chip.registers.idles()) {
         return s;
     }
-    if n <= s.cycles.0 {
+    if terms.limit <= s.cycles.0 {
         return s;
     }
-    let k = room(session, n, s);
+    let k = room(terms, s);
     let by = Grown {
         cycles: Cycles(k),
         ..UNGROWN
@@ -145,16 +144,15 @@ fn strode(s: State, c: Registers, cycles: Cycles, instructions: Instructions) ->
 }
 
 // Plain instructions one after the other, as long as nothing else stirs: the run goes on the same, from where they end.
-fn stride(session: &[u8], n: u32, s: State, image: &mut [u8]) -> State
-    requires { Fine s × (n ≤ 1000000000) }
-    ensures { (watch : Watch) → Paced (watching session.now n watch)
-        s image.old result image.new }
+fn stride(terms: Terms, s: State, image: &mut [u8]) -> State
+    requires { Fine s × (terms.limit ≤ 1000000000) }
+    ensures { Paced (terms_of terms.entry) s image.old result image.new }
 {
-    if n <= s.cycles.0 {
+    if terms.limit <= s.cycles.0 {
         return s;
     }
     let m = s.machine;
-    let room = room(session, n, s);
+    let room = room(terms, s);
     let masked = m.chip.registers.codes.i;
     let floor = plain::floor_of(m.chip.bus.rame);
     let start = m.chip.bus.r;
@@ -175,46 +173,43 @@ fn stride(session: &[u8], n: u32, s: State, image: &mut [u8]) -> State
 }
 
 // What either run does between two boundaries.
-fn pace(leaping: bool, session: &[u8], n: u32, s: State, image: &mut [u8]) -> State
-    requires { Fine s × (n ≤ 1000000000) }
-    ensures { (watch : Watch) → Paced (watching session.now n watch)
-        s image.old result image.new }
+fn pace(leaping: bool, terms: Terms, s: State, image: &mut [u8]) -> State
+    requires { Fine s × (terms.limit ≤ 1000000000) }
+    ensures { Paced (terms_of terms.entry) s image.old result image.new }
 {
     if s.machine.chip.registers.idles() {
         if leaping {
-            return leap(session, n, s);
+            return leap(terms, s);
         }
         return s;
     }
-    stride(session, n, s, image)
+    stride(terms, s, image)
 }
 
 // A run, leaping or single: boundaries until one stops it.
 pub fn run(
     leaping: bool,
-    session: &[u8],
-    n: u32,
-    watch: Watch,
+    terms: Terms,
     image: &mut [u8],
     area: &mut [u8],
     output: &mut [u8],
     log: &mut [u8],
     start: State,
 ) -> Outcome
-    requires { Fine start × (n ≤ 1000000000) }
+    requires { Fine start × (terms.limit ≤ 1000000000) }
     ensures { ended_of result.stop (world_of result.state (lending image.new area.new output.new log.new))
-        ≡ run_of (watching session.now n watch)
+        ≡ run_of (terms_of terms.entry)
         (world_of start (lending image.old area.old output.old log.old)) }
 {
     let mut s = start;
     loop {
-        let t = s.boundary(session, n, watch, image, area, output, log);
+        let t = s.boundary(terms, image, area, output, log);
         if let Some(stop) = t.stop {
             return Outcome {
                 stop,
                 state: t.state,
             };
         }
-        s = pace(leaping, session, n, t.state, image);
+        s = pace(leaping, terms, t.state, image);
     }
 }

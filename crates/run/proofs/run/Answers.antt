@@ -22,7 +22,7 @@ pace-s-requires c = (run_fine _ _ _ c.loop-stop.invariant.0 (went c.boundary-t.e
 pub loop-stop-smaller : goal.loop-stop-smaller
 loop-stop-smaller c =
     let f = run_falls _ _ _ (went c.boundary-t.ensures c.in_default.is) in
-    let g = (c.pace-s.ensures c.args.watch).1 in
+    let g = c.pace-s.ensures.1 in
     omega arith
 
 pub loop-stop-preserved : goal.loop-stop-preserved
@@ -30,7 +30,7 @@ loop-stop-preserved c =
     let b = c.boundary-t in
     let v = c.loop-stop.invariant in
     let p = c.pace-s in
-    let e = p.ensures c.args.watch in (
+    let e = p.ensures in (
       e.0,
       v.1 ∙ run_more _ _ (went b.ensures c.in_default.is) ∙ e.2 (lending b.new.image b.new.area b.new.output b.new.log),
       p.auto.image ∙ b.auto.image ∙ v.2,

@@ -2,7 +2,7 @@
 use Rattle.std.proofs.Common.{◌<◌, refl, ap, subst, ◌∙◌, arith, Option}
 use Rattle.plain.specs.declared.Hop.{Hop}
 use Rattle.plain.specs.Plainly.{Hopped, Hops}
-use Rattle.boundary.specs.World.{watching, world_of}
+use Rattle.boundary.specs.World.{terms_of, world_of}
 use Rattle.boundary.specs.Boundary.{run_of}
 use Rattle.boundary.specs.declared.State.{State}
 use Rattle.run.specs.Leaps.{with_image}
@@ -12,7 +12,7 @@ use Rattle.run.proofs.stride.Goals as goal
 pub loop-cycles-init : goal.loop-cycles-init
 loop-cycles-init c =
     let a = c.args in
-    (λ watch l. ap (λ (x : State). run_of (watching a.session.now a.n watch) (world_of x (with_image l a.image.now))) (strode_none a.s), omega arith, omega arith, refl)
+    (λ l. ap (λ (x : State). run_of (terms_of a.terms) (world_of x (with_image l a.image.now))) (strode_none a.s), omega arith, omega arith, refl)
 
 pub loop-cycles-preserved : goal.loop-cycles-preserved
 loop-cycles-preserved c =
@@ -32,8 +32,8 @@ loop-cycles-preserved c =
     let w = m.takes in
     let x = m.most in
     let told = c.idles.ensures in (
-      λ watch. strides (watching a.session.now a.n watch) a.s room.result l.c next l.cycles l.instructions k.0 floor.result
-          a.image.now l.image h.new.image room.ensures told on floor.ensures m (l.invariant.0 watch),
+      strides (terms_of a.terms) a.s room.result l.c next l.cycles l.instructions k.0 floor.result
+          a.image.now l.image h.new.image room.ensures told on floor.ensures m l.invariant.0,
       omega arith,
       omega arith,
       h.auto.image ∙ l.invariant.3,
