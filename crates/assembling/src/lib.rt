@@ -70,6 +70,13 @@ fn next_line(keys: &[u64], text: &[u8], due: Option<u32>) -> Result<Line, Fault>
     step_on(listing_reading::read_line(keys, text), due)
 }
 
+// Where the next line is due.
+fn end_of(p: Piece) -> u32
+    ensures { result ≡ p.address + p.length }
+{
+    p.address as u32 + p.length as u32
+}
+
 fn refusal(fault: Fault, line: usize) -> AssembleRefusal
     ensures { result ≡ refusal_of fault line }
 {
@@ -91,11 +98,11 @@ fn check(keys: &[u64], text: &[u8]) -> Result<usize, AssembleRefusal>
     while at < text.len() {
         match next_line(keys, &text[at..], due) {
             Err(fault) => return Err(refusal(fault, line)),
-            Ok(Line { piece: p, size }) => {
-                due = Some(p.address as u32 + p.length as u32);
-                at += size as usize;
+            Ok(taken) => {
+                due = Some(end_of(taken.piece));
+                at += taken.size as usize;
                 line += 1;
-                n += p.length as usize;
+                n += taken.piece.length as usize;
             }
         }
     }
@@ -122,13 +129,13 @@ fn write(keys: &[u64], text: &[u8], buffer: &mut [u8])
     let mut due = None;
     let mut to: usize = 0;
     while at < text.len() {
-        let Ok(Line { piece: p, size }) = next_line(keys, &text[at..], due) else {
+        let Ok(taken) = next_line(keys, &text[at..], due) else {
             return;
         };
-        put(p, to, buffer);
-        due = Some(p.address as u32 + p.length as u32);
-        at += size as usize;
-        to += p.length as usize;
+        put(taken.piece, to, buffer);
+        due = Some(end_of(taken.piece));
+        at += taken.size as usize;
+        to += taken.piece.length as usize;
     }
 }
 

@@ -28,6 +28,7 @@ fn bad_line(number: u8, line: usize) -> Line
 }
 
 // The line of an answer, its end included.
+#[tactic(auto, using(printing::proofs::Laws::puts_then), unfolding(crate::specs::Answers::assembled_text, crate::specs::Answers::refusal_text))]
 pub fn assembled_line(answer: Result<Option<Span>, AssembleRefusal>) -> Line
     ensures { result ≡ puts_of empty_line (assembled_text (told_assembled answer)) }
 {

@@ -17,7 +17,7 @@ use Rattle.std.specs.Prelude.{Option, None, Some, Result, Ok, Err}
 use Rattle.opcodes.specs.declared.Instruction.{Instruction}
 use Rattle.opcodes.proofs.Fits.{fits}
 use Rattle.listing_lines.specs.declared.Form.{Form}
-use Rattle.listing_codes.specs.Codes.{code_for, piece, line, branch_distance, is_far, placed_at, coded_as, is_data, coded_of}
+use Rattle.listing_codes.specs.Codes.{code_for, piece, line_of, branch_distance, is_far, placed_at, coded_as, is_data, coded_of}
 use Rattle.listing_codes.specs.declared.Line.{Line}
 use Rattle.listing_codes.specs.declared.Unread.{Unread}
 use Rattle.listing_codes.specs.declared.Unread.TheVariants.{Bad, Far}
@@ -50,7 +50,7 @@ module _ (a v size : ℕ) where
   placed_fair op l Extended e h = whole 3 _ _ _ (omega arith) (omega arith) (λ _. omega arith)
   placed_fair op l Relative e h =
       let d = branch_distance a v in
-      cases (Fair a size) (is_far d) {x = Err (Far a)} {y = line (piece a 2 op (low d) 0) size} (λ _. refl)
+      cases (Fair a size) (is_far d) {x = Err (Far a)} {y = line_of (piece a 2 op (low d) 0) size} (λ _. refl)
       (λ _. whole 2 _ _ _ (omega arith) (omega arith) (λ _. omega arith))
 
   coded_as_fair : (op : ℕ) (d : Option Instruction) → decode_of op ≡ d → Fair a size (coded_as a op d v size)
@@ -64,7 +64,7 @@ module _ (a v size : ℕ) where
     unfolding coded_of
     coded_fair =
         let op = code_for name form in
-        cases (Fair a size) (is_data name form) {x = line (piece a 1 (low v) 0 0) size} {y = coded_as a op (decode_of op) v size}
+        cases (Fair a size) (is_data name form) {x = line_of (piece a 1 (low v) 0 0) size} {y = coded_as a op (decode_of op) v size}
         (λ _. whole 1 _ _ _ (omega arith) (omega arith) (λ h. omega arith)) (λ _. coded_as_fair op (decode_of op) refl)
 
     pub coded_whole : (l : Line) → coded_of a name form v size ≡ Ok l → Whole a size l

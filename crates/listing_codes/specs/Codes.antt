@@ -46,8 +46,8 @@ piece address length first second third =
     record { address = address; length = length; first = first; second = second; third = third }
 
 -- .. and how many characters the line has
-abbrev pub line : Piece → ℕ → Result Line Unread
-line p size = Ok (record { piece = p; size = size })
+abbrev pub line_of : Piece → ℕ → Result Line Unread
+line_of p size = Ok (record { piece = p; size = size })
 
 -- "14 exactly when (target - address - 2) mod 65,536 lies in 128 to 65,407"
 abbrev pub branch_distance : ℕ → ℕ → ℕ
@@ -57,18 +57,18 @@ abbrev pub is_far : ℕ → Bool
 is_far distance = ltb 127 distance && ltb distance 65408
 
 abbrev pub branch_to : ℕ → ℕ → ℕ → ℕ → Result Line Unread
-branch_to address op distance size = cond (is_far distance) (Err (Far address)) (line (piece address 2 op (low distance) 0) size)
+branch_to address op distance size = cond (is_far distance) (Err (Far address)) (line_of (piece address 2 op (low distance) 0) size)
 
 -- the bytes of an opcode with its operand
 abbrev pub placed_at : ℕ → ℕ → Place → ℕ → ℕ → Result Line Unread
-placed_at address op place.Inherent v size = line (piece address 1 op 0 0) size
-placed_at address op place.AccumulatorA v size = line (piece address 1 op 0 0) size
-placed_at address op place.AccumulatorB v size = line (piece address 1 op 0 0) size
-placed_at address op place.ImmediateByte v size = line (piece address 2 op (low v) 0) size
-placed_at address op place.ImmediateWord v size = line (piece address 3 op (high v) (low v)) size
-placed_at address op place.Direct v size = line (piece address 2 op (low v) 0) size
-placed_at address op place.Indexed v size = line (piece address 2 op (low v) 0) size
-placed_at address op place.Extended v size = line (piece address 3 op (high v) (low v)) size
+placed_at address op place.Inherent v size = line_of (piece address 1 op 0 0) size
+placed_at address op place.AccumulatorA v size = line_of (piece address 1 op 0 0) size
+placed_at address op place.AccumulatorB v size = line_of (piece address 1 op 0 0) size
+placed_at address op place.ImmediateByte v size = line_of (piece address 2 op (low v) 0) size
+placed_at address op place.ImmediateWord v size = line_of (piece address 3 op (high v) (low v)) size
+placed_at address op place.Direct v size = line_of (piece address 2 op (low v) 0) size
+placed_at address op place.Indexed v size = line_of (piece address 2 op (low v) 0) size
+placed_at address op place.Extended v size = line_of (piece address 3 op (high v) (low v)) size
 placed_at address op place.Relative v size = branch_to address op (branch_distance address v) size
 
 -- "a line whose bytes would end past $FFFF is 13", which comes before 14
@@ -82,4 +82,4 @@ is_data name form = same_name name data_name && same_form form Byte
 
 unfoldable pub coded_of : ℕ → List ℕ → Form → ℕ → ℕ → Result Line Unread
 coded_of address name form v size =
-    cond (is_data name form) (line (piece address 1 (low v) 0 0) size) (coded_as address (code_for name form) (decode_of (code_for name form)) v size)
+    cond (is_data name form) (line_of (piece address 1 (low v) 0 0) size) (coded_as address (code_for name form) (decode_of (code_for name form)) v size)

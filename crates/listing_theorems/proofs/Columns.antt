@@ -7,6 +7,7 @@ use mathlib.Core.List.{List, [], ◌∷◌, ◌++◌}
 use lib.ListN.{get_or, length, drop, length-append}
 use lib.Seq.{drop-append-add}
 use borrow.Author.Tests.{eq-eqb}
+use Rattle.std.specs.Prelude.{Option, None, Result, Err}
 use Rattle.laws.proofs.Bools.{and_true}
 use Rattle.listing_lines.specs.Lines.{cells, statement, operand_text, line_end, published_line}
 use Rattle.listing_lines.specs.Cells.{size_of}
@@ -14,20 +15,19 @@ use Rattle.listing_lines.proofs.Laws.{line_size}
 use Rattle.listing_lines.specs.declared.Form.{Form}
 use Rattle.listing_lines.specs.declared.Form.TheVariants.{Bare, HashByte, HashWord, Byte, Word, Indexed}
 use Rattle.listing_codes.specs.Codes.{coded_of}
-use Rattle.listing_codes.specs.declared.Read.{Read}
-use Rattle.listing_codes.specs.declared.Read.TheVariants.{Bad}
+use Rattle.listing_codes.specs.declared.Line.{Line}
+use Rattle.listing_codes.specs.declared.Unread.{Unread}
+use Rattle.listing_codes.specs.declared.Unread.TheVariants.{Bad}
 use Rattle.listing_reading.specs.Reading.{address_in, column_in, name_in, form_in, operand_in, written_as, begins, no_end, line_in}
 use Rattle.listing_reading.proofs.Whole.{read_whole}
-use Rattle.assembling.specs.declared.Due.{Due}
-use Rattle.assembling.specs.declared.Due.TheVariants.{Anywhere}
 use Rattle.assembling.specs.Assembling.{due_next, Outcome, good, ◌then◌, text_from, outcome_of}
 use Rattle.assembling.proofs.Laws.{on_both, text_at}
 use Rattle.listing_reading.proofs.Unbroken.{cells_all}
 use Rattle.listing_theorems.proofs.Append.{text_append}
 
 -- what is read of a text, its columns 7 to 14 being no LF
-abbrev read_as : List ℕ → Bool → Form → ℕ → Read
-read_as w b form v = cond b (coded_of (address_in w) (name_in w) form v (size_of (get_or (name_in w) 3 0) form)) Bad
+abbrev read_as : List ℕ → Bool → Form → ℕ → Result Line Unread
+read_as w b form v = cond b (coded_of (address_in w) (name_in w) form v (size_of (get_or (name_in w) 3 0) form)) (Err Bad)
 
 read_as_lem : (w : List ℕ) → no_end (column_in w) ≡ true → line_in w ≡ read_as w (begins w (written_as w)) (form_in w) (operand_in (form_in w) w)
 unfolding line_in
@@ -88,17 +88,17 @@ past_columns h d r n p q m =
 
 -- two texts that differ in columns 7 to 14 of their first line
 module _ (h d e r : List ℕ) (six : length h ≡ 6) (m : length d ≡ 8) (n : length e ≡ 8) (k : no_end d ≡ true) (l : no_end e ≡ true) where
-  first_free : (due : Due) (line : ℕ) → text_from (h ++ d ++ r) due line ≡ text_from (h ++ e ++ r) due line
+  first_free : (due : Option ℕ) (line : ℕ) → text_from (h ++ d ++ r) due line ≡ text_from (h ++ e ++ r) due line
   first_free due line =
       text_at (h ++ d ++ r) due line (omega (arith, length-append (h ++ d) r, length-append h d))
       ∙ rw (columns_free h d e r six m n k l)
-      (on_both (line_in (h ++ e ++ r)) due line _ _ (λ p size x _. let a = (read_whole (h ++ e ++ r) p size x).0 in
-      ap (λ (w : List ℕ). text_from w (due_next p) (line + 1)) (past_columns h d r size six m a ∙ sym (past_columns h e r size six n a))))
+      (on_both (line_in (h ++ e ++ r)) due line _ _ (λ l x _. let a = (read_whole (h ++ e ++ r) l x).0 in
+      ap (λ (w : List ℕ). text_from w (due_next l.piece) (line + 1)) (past_columns h d r l.size six m a ∙ sym (past_columns h e r l.size six n a))))
       ∙ sym (text_at (h ++ e ++ r) due line (omega (arith, length-append (h ++ e) r, length-append h e)))
 
   -- .. and in those of any line after whole good lines
   pub text_free : (lines bytes : List ℕ) → outcome_of lines ≡ good bytes → outcome_of (lines ++ (h ++ d ++ r)) ≡ outcome_of (lines ++ (h ++ e ++ r))
   unfolding outcome_of
   text_free lines bytes z =
-      let t = text_append lines Anywhere 1 bytes z in
+      let t = text_append lines None 1 bytes z in
       t.onward (h ++ d ++ r) ∙ ap (λ (o : Outcome). bytes then o) (first_free t.next t.number) ∙ sym (t.onward (h ++ e ++ r))

@@ -18,8 +18,7 @@ use Rattle.std.specs.Prelude.{None, Some}
 use Rattle.opcodes.proofs.Fits.{fits}
 use Rattle.listing_lines.specs.Lines.{form_of, column_of, branch_target, operand_of, data_name, item_line}
 use Rattle.listing_lines.specs.declared.Form.TheVariants.{Byte}
-use Rattle.listing_codes.specs.Codes.{piece, branch_distance, branch_to, placed_at, coded_of}
-use Rattle.listing_codes.specs.declared.Read.TheVariants.{Line}
+use Rattle.listing_codes.specs.Codes.{piece, line_of, branch_distance, branch_to, placed_at, coded_of}
 use Rattle.listing_reading.specs.Reading.{no_end, line_in}
 use Rattle.listing_theorems.proofs.Known.{name_of, known_at}
 use Rattle.listing_theorems.proofs.Digits.{no_end_lem}
@@ -34,10 +33,10 @@ abbrev pub third_of : ℕ → ℕ → ℕ
 third_of n c = cond (ltb 2 n) c 0
 
 -- a target within reach comes back as its offset
-target_back : (a b op size : ℕ) → a < 65536 → b < 256 → branch_to a op (branch_distance a (branch_target a b)) size ≡ Line (piece a 2 op b 0) size
+target_back : (a b op size : ℕ) → a < 65536 → b < 256 → branch_to a op (branch_distance a (branch_target a b)) size ≡ line_of (piece a 2 op b 0) size
 target_back a b op size h k = by (ltb b 128) refl
   where
-    by : (t : Bool) → ltb b 128 ≡ t → branch_to a op (branch_distance a (up (up a 2) (cond t b (b + 65280)))) size ≡ Line (piece a 2 op b 0) size
+    by : (t : Bool) → ltb b 128 ≡ t → branch_to a op (branch_distance a (up (up a 2) (cond t b (b + 65280)))) size ≡ line_of (piece a 2 op b 0) size
     by true e =
         let l = ltb-true b 128 e in
         let d : down (up (up a 2) b) (up a 2) ≡ b = omega arith in
@@ -62,7 +61,7 @@ module _ (a b c : ℕ) (h : a < 65536) (k : b < 256) (l : c < 256) where
   writes place.Relative = omega arith
 
   abbrev Placed : ℕ → ℕ → Place → Type 0
-  Placed op size p = let n = 1 + operand_bytes p in placed_at a op p (operand_of a p b c) size ≡ Line (piece a n op (second_of n b) (third_of n c)) size
+  Placed op size p = let n = 1 + operand_bytes p in placed_at a op p (operand_of a p b c) size ≡ line_of (piece a n op (second_of n b) (third_of n c)) size
 
   placed_back : (op size : ℕ) (p : Place) → Placed op size p
   placed_back op size place.Inherent = refl
@@ -84,7 +83,7 @@ module _ (a b c : ℕ) (h : a < 65536) (k : b < 256) (l : c < 256) where
   -- the search finds the opcode again
   coded_back : (op : ℕ) (i : Instruction) (size : ℕ) → op < 256 → decode_of op ≡ Some i → a + i.length ≤ 65536
       → coded_of a (name_of i) (form_of i.place) (operand_of a i.place b c) size
-      ≡ Line (piece a i.length op (second_of i.length b) (third_of i.length c)) size
+      ≡ line_of (piece a i.length op (second_of i.length b) (third_of i.length c)) size
   unfolding coded_of
   coded_back op i size m e f =
       let t = known_at op i m e in
@@ -115,7 +114,7 @@ column_free (suc (suc (suc n))) op b c =
 
 pub item_back : (a op b c : ℕ) → a < 65536 → op < 256 → b < 256 → c < 256 → (rest : List ℕ) (i : Instruction) → decode_of op ≡ Some i → a + i.length ≤ 65536
     → line_in (item_line a (Some i) op b c ++ rest)
-    ≡ Line (piece a i.length op (second_of i.length b) (third_of i.length c)) (length (item_line a (Some i) op b c))
+    ≡ line_of (piece a i.length op (second_of i.length b) (third_of i.length c)) (length (item_line a (Some i) op b c))
 unfolding item_line
 item_back a op b c h m k l rest i e f =
     let t = known_at op i m e in
@@ -124,7 +123,7 @@ item_back a op b c h m k l rest i e f =
     ∙ coded_back a b c h k l op i _ m e f
 
 pub data_back : (a op b c : ℕ) → a < 65536 → op < 256 → (rest : List ℕ)
-    → line_in (item_line a None op b c ++ rest) ≡ Line (piece a 1 op 0 0) (length (item_line a None op b c))
+    → line_in (item_line a None op b c ++ rest) ≡ line_of (piece a 1 op 0 0) (length (item_line a None op b c))
 unfolding item_line coded_of
 data_back a op b c h m rest =
     let e : op % 256 ≡ op = omega arith in

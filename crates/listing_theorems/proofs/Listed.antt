@@ -13,7 +13,7 @@ use Rattle.laws.proofs.Conds.{cases}
 use Rattle.laws.proofs.Known.{known}
 use Rattle.numbers.specs.Numbers.{over}
 use Rattle.opcodes.specs.Opcodes.{decode_of}
-use Rattle.std.specs.Prelude.{Option}
+use Rattle.std.specs.Prelude.{Option, Result, Ok, Err}
 use Rattle.opcodes.specs.declared.Instruction.{Instruction}
 use Rattle.opcodes.proofs.Table.{passes}
 use Rattle.asking.specs.Asking.{Given, gives, replies}
@@ -22,8 +22,8 @@ use Rattle.listing_lines.specs.Lines.{bytes_of}
 use Rattle.listing_lines.specs.Cells.{item_size}
 use Rattle.listing_lines.proofs.Laws.{item_size_lem}
 use Rattle.listing.specs.Listing.{image_byte, shown_at, listing_from, is_bad_range, told_listed, list_answer, listed_buffer, list_buffer}
-use Rattle.listing.specs.declared.Listed.{Listed}
-use Rattle.listing.specs.declared.Listed.TheVariants.{Wrote, WrongImage, WrongRange, NoRoom}
+use Rattle.listing.specs.declared.ListRefusal.{ListRefusal}
+use Rattle.listing.specs.declared.ListRefusal.TheVariants.{WrongImage, WrongRange, NoRoom}
 use Rattle.listing.proofs.Laws.{Item, data_byte, whole, item_at, shown_bounds, found, listing_split, listing_done}
 use Rattle.listing.proofs.Laws.{good_range, wrong_image, wrong_range, no_room, wrote}
 
@@ -54,18 +54,18 @@ is_good_lem first last h =
     let l : last ≤ 65535 = omega (arith, h.1) in
     ap (λ (t : Bool). t || ltb last first) (le-ltb 65535 last l) ∙ le-ltb last first h.0
 
-abbrev listed_back : Given ℕ → Listed
-listed_back (gives n) = Wrote n
-listed_back (replies k) = cond (eqb k 1) WrongImage (cond (eqb k 22) WrongRange NoRoom)
+abbrev listed_back : Given ℕ → Result ℕ ListRefusal
+listed_back (gives n) = Ok n
+listed_back (replies k) = Err (cond (eqb k 1) WrongImage (cond (eqb k 22) WrongRange NoRoom))
 
-listed_known : (a b : Listed) → told_listed a ≡ told_listed b → a ≡ b
+listed_known : (a b : Result ℕ ListRefusal) → told_listed a ≡ told_listed b → a ≡ b
 listed_known = known told_listed listed_back back
   where
-    back : (a : Listed) → listed_back (told_listed a) ≡ a
-    back (Wrote n) = refl
-    back WrongImage = refl
-    back WrongRange = refl
-    back NoRoom = refl
+    back : (a : Result ℕ ListRefusal) → listed_back (told_listed a) ≡ a
+    back (Ok n) = refl
+    back (Err WrongImage) = refl
+    back (Err WrongRange) = refl
+    back (Err NoRoom) = refl
 
 module _ (image : List ℕ) (first last : ℕ) (buffer : List ℕ) where
   abbrev pub Answers : Given ℕ → Type 0
@@ -140,10 +140,10 @@ module _ (image : List ℕ) (first last : ℕ) (buffer : List ℕ) where
   listing_left n e = ap (λ (a : Given ℕ). listed_buffer a text buffer) e
 
   -- any two results that the contract admits are equal
-  abbrev pub Gives : Listed → List ℕ → Type 0
+  abbrev pub Gives : Result ℕ ListRefusal → List ℕ → Type 0
   Gives r left = (told_listed r ≡ list_answer image first last buffer) × (left ≡ list_buffer image first last buffer)
 
-  pub list_settled : (r r' : Listed) (left left' : List ℕ) → Gives r left → Gives r' left' → (r ≡ r') × (left ≡ left')
+  pub list_settled : (r r' : Result ℕ ListRefusal) (left left' : List ℕ) → Gives r left → Gives r' left' → (r ≡ r') × (left ≡ left')
   list_settled r r' left left' p q = (listed_known r r' (p.0 ∙ sym q.0), p.1 ∙ sym q.1)
 
 -- a line has at most 25 characters for each byte that it lists

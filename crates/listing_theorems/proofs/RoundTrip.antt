@@ -14,14 +14,11 @@ use Rattle.std.specs.Prelude.{Option, None, Some}
 use Rattle.opcodes.specs.declared.Instruction.{Instruction}
 use Rattle.listing_lines.specs.Lines.{bytes_of, item_line}
 use Rattle.listing_lines.proofs.Laws.{item_size_lem, item_least}
-use Rattle.listing_codes.specs.Codes.{piece}
+use Rattle.listing_codes.specs.Codes.{piece, line_of}
 use Rattle.listing_codes.specs.declared.Piece.{Piece}
-use Rattle.listing_codes.specs.declared.Read.TheVariants.{Line}
 use Rattle.listing_reading.specs.Reading.{address_in, line_in}
 use Rattle.listing.specs.Listing.{image_byte, shown_at, line_at, listed_bytes, listing_from}
 use Rattle.listing.proofs.Laws.{Item, data_byte, whole, item_at, bytes_bounds, listing_more, listing_done}
-use Rattle.assembling.specs.declared.Due.{Due}
-use Rattle.assembling.specs.declared.Due.TheVariants.{Anywhere, At}
 use Rattle.assembling.specs.Assembling.{follows, good, text_from, outcome_of, wrote, assemble_answer, assemble_buffer}
 use Rattle.assembling.proofs.Laws.{text_line, text_done}
 use Rattle.listing_theorems.proofs.Back.{address_back}
@@ -47,13 +44,13 @@ module _ (image : List ℕ) (last : ℕ) (size : length image ≡ 65536) (small 
 
   shown_back : (a : ℕ) → a ≤ last → (rest : List ℕ) {d : Option Instruction} → Item (decode_of (image_byte image a)) (last + 1 - a) d
       → line_in (item_line a d (image_byte image a) (image_byte image (a + 1)) (image_byte image (a + 2)) ++ rest)
-      ≡ Line (piece_at a (bytes_of d)) (length (item_line a d (image_byte image a) (image_byte image (a + 1)) (image_byte image (a + 2))))
+      ≡ line_of (piece_at a (bytes_of d)) (length (item_line a d (image_byte image a) (image_byte image (a + 1)) (image_byte image (a + 2))))
   shown_back a h rest (data_byte _) = data_back a (image_byte image a) (image_byte image (a + 1)) (image_byte image (a + 2)) (omega arith) (small a) rest
   shown_back a h rest (whole i e l) =
       item_back a (image_byte image a) (image_byte image (a + 1)) (image_byte image (a + 2)) (omega arith) (small a) (small (a + 1)) (small (a + 2)) rest i e (omega arith)
 
   -- a line of the listing is read again as its bytes
-  line_again : (a : ℕ) → a ≤ last → (rest : List ℕ) → line_in (line_at image last a ++ rest) ≡ Line (piece_at a (listed_bytes image last a)) (length (line_at image last a))
+  line_again : (a : ℕ) → a ≤ last → (rest : List ℕ) → line_in (line_at image last a ++ rest) ≡ line_of (piece_at a (listed_bytes image last a)) (length (line_at image last a))
   unfolding line_at listed_bytes
   line_again a h rest = shown_back a h rest (item_at image last a)
 
@@ -65,13 +62,13 @@ module _ (image : List ℕ) (last : ℕ) (size : length image ≡ 65536) (small 
       let e : last + 1 - a ≡ n + (last + 1 - (a + n)) = omega arith in
       rw (e, take-add n (last + 1 - (a + n)) (drop a image), drop-drop n a image)
 
-  back : (k a : ℕ) (due : Due) (line : ℕ) → last + 1 ≤ a + k → follows due a ≡ true → text_from (listing_from image last a) due line ≡ good (listed a)
+  back : (k a : ℕ) (due : Option ℕ) (line : ℕ) → last + 1 ≤ a + k → follows due a ≡ true → text_from (listing_from image last a) due line ≡ good (listed a)
   back zero a due line h f =
       let e : last + 1 - a ≡ 0 = omega arith in
       rw (listing_done image last a (omega arith), e) (text_done due line)
   back (suc k) a due line h f = by (λ b due line. back k b due line) (ltb last a) refl
     where
-      by : ((b : ℕ) (due : Due) (line : ℕ) → last + 1 ≤ b + k → follows due b ≡ true → text_from (listing_from image last b) due line ≡ good (listed b))
+      by : ((b : ℕ) (due : Option ℕ) (line : ℕ) → last + 1 ≤ b + k → follows due b ≡ true → text_from (listing_from image last b) due line ≡ good (listed b))
           → (t : Bool) → ltb last a ≡ t → text_from (listing_from image last a) due line ≡ good (listed a)
       by ih true e =
           let m = ltb-true last a e in
@@ -82,14 +79,15 @@ module _ (image : List ℕ) (last : ℕ) (size : length image ≡ 65536) (small 
           let n = listed_bytes image last a in
           let b = bytes_bounds image last a m in
           ap (λ (w : List ℕ). text_from w due line) (listing_more image last a m)
-          ∙ text_line (line_at image last a) (listing_from image last (a + n)) (piece_at a n) due line (line_again a m (listing_from image last (a + n))) f
-          ∙ rw (ih (a + n) (At (a + n)) (line + 1) (omega arith) (eq-eqb (a + n) (a + n) refl), three image a n b.0 b.1 (omega arith))
+          ∙ text_line (line_at image last a) (listing_from image last (a + n)) (record { piece = piece_at a n; size = length (line_at image last a) }) due line
+          (line_again a m (listing_from image last (a + n))) refl f
+          ∙ rw (ih (a + n) (Some (a + n)) (line + 1) (omega arith) (eq-eqb (a + n) (a + n) refl), three image a n b.0 b.1 (omega arith))
           (ap good (listed_more a n b.2))
 
   -- the theorem
   pub round_trip : (first : ℕ) → first ≤ last → outcome_of (listing_from image last first) ≡ good (take (last + 1 - first) (drop first image))
   unfolding outcome_of
-  round_trip first h = back (last + 1) first Anywhere 1 (omega arith) refl
+  round_trip first h = back (last + 1) first None 1 (omega arith) refl
 
   line_some : (a : ℕ) → a ≤ last → length (listing_from image last a) ≡ 0 → ⊥
   unfolding line_at

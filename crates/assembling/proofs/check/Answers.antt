@@ -6,24 +6,23 @@ use Rattle.assembling.proofs.check.Goals as goal
 pub loop-at-init : goal.loop-at-init
 loop-at-init c = checking_starts c.args.text.now
 
-pub returns-in-Stops : goal.returns-in-Stops
-returns-in-Stops c =
+pub returns-in-Err : goal.returns-in-Err
+returns-in-Err c =
     let l = c.loop-at in
-    checking_stops _ l.at l.due l.line l.n l.invariant c.loop-at-test.true c.read_line-read.ensures c.step_on-step.ensures c.in-Stops.is
+    rw c.refusal.ensures (checking_stops _ l.at l.due l.line l.n l.invariant c.loop-at-test.true c.next_line.ensures c.in-Err.is)
 
 pub loop-at-smaller : goal.loop-at-smaller
 loop-at-smaller c =
     let l = c.loop-at in
-    let r = c.read_line-read.ensures in
-    let s = c.step_on-step.ensures in
+    let s = c.next_line.ensures in
     let t = c.loop-at-test.true in
-    let g = checking_goes c.args.text.now l.at l.due l.line l.n l.invariant t r s _ _ c.in-Takes.is in
-    omega (arith, g.inside, forward c.args.text.now l.at l.due l.line t r s _ _ c.in-Takes.is)
+    let g = checking_goes c.args.text.now l.at l.due l.line l.n l.invariant t s _ c.in-Ok.is in
+    omega (arith, g.inside, forward c.args.text.now l.at l.due l.line t s _ c.in-Ok.is)
 
 pub loop-at-preserved : goal.loop-at-preserved
 loop-at-preserved c =
     let l = c.loop-at in
-    checking_goes _ l.at l.due l.line l.n l.invariant c.loop-at-test.true c.read_line-read.ensures c.step_on-step.ensures _ _ c.in-Takes.is
+    rw c.end_of.ensures (checking_goes _ l.at l.due l.line l.n l.invariant c.loop-at-test.true c.next_line.ensures _ c.in-Ok.is)
 
 pub returns : goal.returns
 returns c = let l = c.loop-at in checking_ends _ l.at l.due l.line l.n l.invariant c.loop-at-test.false
