@@ -1,5 +1,4 @@
 -- `end_line` meets its contract: the reply is a stop, or a refusal. Assumes nothing.
-use borrow.Author.Rules.{rules}
 use Rattle.night_lines.specs.NightLines.{end_text}
 use Rattle.night_lines.proofs.end_line.Goals as goal
 

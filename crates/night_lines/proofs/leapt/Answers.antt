@@ -1,5 +1,4 @@
 -- `leapt` meets its contract: the counts, and then the leaps. Assumes nothing.
-use borrow.Author.Rules.{rules}
 use Rattle.printing.proofs.Laws.{puts_then}
 use Rattle.night_lines.specs.NightLines.{leapt_text}
 use Rattle.night_lines.proofs.leapt.Goals as goal

@@ -1,5 +1,4 @@
 -- `slice_line` meets its contract: words and numbers in the same order. Assumes nothing.
-use borrow.Author.Rules.{rules}
 use Rattle.printing.proofs.Laws.{puts_then}
 use Rattle.night_lines.specs.NightLines.{slice_text}
 use Rattle.night_lines.proofs.slice_line.Goals as goal

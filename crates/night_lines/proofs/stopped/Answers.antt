@@ -1,5 +1,4 @@
 -- `stopped` meets its contract: words, numbers and registers in the same order. Assumes nothing.
-use borrow.Author.Rules.{rules}
 use Rattle.printing.proofs.Laws.{puts_then}
 use Rattle.night_lines.specs.NightLines.{stopped_text}
 use Rattle.night_lines.proofs.stopped.Goals as goal
