@@ -178,6 +178,7 @@ impl Machine {
     }
 
     // No cycle passes, and the vector is memory.
+    #[tactic(auto, using(crate::proofs::Reset::vector_read), unfolding(crate::specs::Machine::reset_of, bus::specs::Units::reset_bus))]
     pub fn reset(self, image: &[u8], area: &[u8]) -> Machine
         ensures { result ≡ reset_of (memories image.now area.now) self }
     {
@@ -302,6 +303,7 @@ impl Machine {
     }
 
     // The byte that the opcode's fetch is to read.
+    #[tactic(auto, unfolding(timing::specs::Digits::listed, moments::specs::Moment::to_next, moments::specs::Moment::read_at))]
     fn opcode(self, image: &[u8], area: &[u8]) -> u8
         ensures { result ≡ (read_of (memories image.now area.now) self.chip.registers.pc self.chip.bus).value }
     {

@@ -35,6 +35,7 @@ pub fn begin(bus: Bus, ahead: u64) -> Clocked
 
 impl Clocked {
     // The cycles before the next access pass.
+    #[tactic(auto, using(crate::proofs::Laws::advance_law))]
     fn advance(mut self) -> Clocked
         ensures { moment_of result ≡ next (moment_of self) }
     {
@@ -45,6 +46,7 @@ impl Clocked {
     }
 
     // The units are shown all cycles that have passed.
+    #[tactic(auto, using(crate::proofs::Laws::catch_up_law))]
     fn catch_up(mut self) -> Clocked
         ensures fact_1 { moment_of result ≡ moment_of self }
         ensures fact_2 { lag result ≡ 0 }
@@ -78,6 +80,7 @@ impl Clocked {
     }
 
     // From $20 on an access cannot tell by how much the units lag.
+    #[tactic(auto, unfolding(crate::specs::Moment::read_at))]
     pub fn read(self, image: &[u8], area: &[u8], at: u16) -> Read<u8, Clocked>
         ensures { read_on result ≡ read_at (memories image.now area.now) at (moment_of self) }
     {
@@ -92,6 +95,7 @@ impl Clocked {
     }
 
     // The opcode's read, whose value is known: from $20 on it has no effect.
+    #[tactic(auto, unfolding(crate::specs::Moment::read_at))]
     pub fn fetch(self, image: &[u8], at: u16) -> Clocked
         ensures { (area : List ℕ) → moment_of result ≡ (read_at (memories image.now area) at (moment_of self)).next }
     {
@@ -102,6 +106,7 @@ impl Clocked {
         c
     }
 
+    #[tactic(auto, unfolding(crate::specs::Moment::write_at, crate::specs::Moment::stored_at))]
     pub fn write(self, image: &mut [u8], area: &mut [u8], at: u16, v: u8) -> Clocked
         ensures fact_1 { moment_of result ≡ write_at at v (moment_of self) }
         ensures fact_2 { memories image.new area.new ≡ stored_at at v (moment_of self) (memories image.old area.old) }
@@ -115,6 +120,7 @@ impl Clocked {
     }
 
     // The rest of n cycles passes.
+    #[tactic(auto, using(crate::proofs::Laws::finish_law))]
     pub fn finish(self, n: u8) -> Bus
         ensures { result ≡ ended n (moment_of self) }
     {

@@ -1,8 +1,5 @@
-use Prim.Native.Nat.{ℕ}
-use mathlib.Core.List.{List}
-use mathlib.Core.Path.{sym, ap, ◌∙◌}
-use Rattle.bus.specs.Access.{memories}
-use Rattle.bus.proofs.Stores.{plain_takes, plain_store_lem, area_store}
+use mathlib.Core.Path.{sym, ◌∙◌}
+use Rattle.bus.proofs.Stores.{plain_takes, area_store}
 use Rattle.bus.proofs.Bus.write_high.Goals as goal
 
 pub returns-then-is_in_area : goal.returns-then-is_in_area
@@ -11,9 +8,3 @@ returns-then-is_in_area c = let a = c.args in
     area_store a.self a.at a.v a.image.now a.area.now _ c.is_writable.result c.store.ensures
     (c.is_writable.ensures ∙ sym (plain_takes a.self.rame a.self.r a.at h)) (sym c.is_in_area.ensures
     ∙ c.if-is_in_area.true)
-
-pub returns-else-is_in_area : goal.returns-else-is_in_area
-returns-else-is_in_area c = let a = c.args in
-    ap (λ (x : List ℕ). memories x a.area.now) c.write_plain.ensures
-    ∙ sym (plain_store_lem a.self a.at a.v a.image.now a.area.now c.requires
-    (sym c.is_in_area.ensures ∙ c.if-is_in_area.false))
