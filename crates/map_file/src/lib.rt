@@ -6,13 +6,12 @@ ghost use Rattle.execution_map.specs.Map.{map_of};
 ghost use Rattle.map_file.specs.MapFile.{file_bytes, file_map, is_map_file, map_file_of};
 
 // Whether a file's bytes are a map and its own total.
+#[tactic(auto, unfolding(crate::specs::MapFile::is_map_file))]
 pub fn is_map(file: &[u8]) -> bool
     ensures { result ≡ is_map_file file.now }
 {
-    if file.len() != 8196 {
-        return false;
-    }
-    execution_map::is_sound(asking::filled(file, 8192), numbers::four_at(file, 8192, 0))
+    file.len() == 8196
+        && execution_map::is_sound(asking::filled(file, 8192), numbers::four_at(file, 8192, 0))
 }
 
 // The total that a map's file states.

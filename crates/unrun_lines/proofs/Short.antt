@@ -2,7 +2,8 @@
 use Prim.Native.Nat.{ℕ}
 use native.Mathlib.Omega.{arith}
 use mathlib.Core.List.{List}
-use mathlib.Core.Option.{Option, none, some}
+use mathlib.Core.Option.{none}
+use Rattle.std.specs.Prelude.{Option, None, Some}
 use mathlib.Core.Path.{◌≡◌, ap, ◌∙◌}
 use Rattle.printing.specs.declared.Line.{Line}
 use Rattle.printing.specs.Printing.{ascii, empty_line, puts_of, shown}
@@ -13,8 +14,8 @@ use Rattle.unrun_lines.specs.UnrunLines.{search_text, unrun_text}
 
 search_short : (answer : Given (Option ℕ)) → Short 201 (search_text answer)
 unfolding search_text
-search_short (gives (some at)) = longer (omega arith) (hexadecimal_short 4 at then short (ascii "\n"))
-search_short (gives none) = longer (omega arith) (short (ascii "none\n"))
+search_short (gives (Some at)) = longer (omega arith) (hexadecimal_short 4 at then short (ascii "\n"))
+search_short (gives None) = longer (omega arith) (short (ascii "none\n"))
 search_short (replies k) = refused_short k none then short (ascii "\n")
 
 unrun_short : (file : List ℕ) (first last : ℕ) → Short 201 (unrun_text file first last)

@@ -10,6 +10,7 @@ use execution_map::WrongMap;
 use printing::Line;
 
 // The line of what a search gave.
+#[tactic(auto, using(printing::proofs::Laws::puts_then), unfolding(crate::specs::UnrunLines::search_text))]
 fn search_line(answer: Result<Option<u16>, WrongMap>) -> Line
     ensures { result ≡ puts_of empty_line (search_text (told_search answer)) }
 {
@@ -21,6 +22,7 @@ fn search_line(answer: Result<Option<u16>, WrongMap>) -> Line
 }
 
 // The line of a map's file and a range, its end included.
+#[tactic(auto, unfolding(crate::specs::UnrunLines::unrun_text))]
 pub fn unrun_line(file: &[u8], first: u16, last: u16) -> Line
     ensures { result ≡ puts_of empty_line (unrun_text file.now first last) }
 {
