@@ -8,10 +8,6 @@ pub returns-then-from-floor : goal.returns-then-from-floor
 unfolding loads_word
 returns-then-from-floor c = λ s. is_left _ _ _ _
 
-pub returns-then-plus-floor : goal.returns-then-plus-floor
-unfolding loads_word
-returns-then-plus-floor c = λ s. is_left _ _ _ _
-
 pub returns : goal.returns
 unfolding loads_word
 returns c = λ s. is_made _ _ _ _ _ _ (after _ _ _ _ _

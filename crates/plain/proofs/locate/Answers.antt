@@ -1,19 +1,15 @@
 use mathlib.Core.Path.{refl, sym}
+use mathlib.Core.Logic.{inl, inr}
 use Rattle.plain.proofs.Accesses.{after, ends, reads, reads2}
 use Rattle.chip.specs.Instructions.{operand}
 use Rattle.plain.proofs.locate.Goals as goal
 
 pub returns-in-Inherent : goal.returns-in-Inherent
 unfolding operand
-returns-in-Inherent c = λ s. rw c.in-Inherent.is (ends _ _ _ refl)
-
-pub returns-in-AccumulatorA : goal.returns-in-AccumulatorA
-unfolding operand
-returns-in-AccumulatorA c = λ s. rw c.in-AccumulatorA.is (ends _ _ _ refl)
-
-pub returns-in-AccumulatorB : goal.returns-in-AccumulatorB
-unfolding operand
-returns-in-AccumulatorB c = λ s. rw c.in-AccumulatorB.is (ends _ _ _ refl)
+returns-in-Inherent c = λ s. elim c.in-Inherent.is [
+  | inl e ↦ rw e (ends _ _ _ refl)
+  | inr o ↦ elim o [ inl e ↦ rw e (ends _ _ _ refl) | inr e ↦ rw e (ends _ _ _ refl) ]
+]
 
 pub returns-in-ImmediateByte : goal.returns-in-ImmediateByte
 unfolding operand

@@ -8,10 +8,6 @@ pub returns-then-c-floor : goal.returns-then-c-floor
 unfolding pushes_word
 returns-then-c-floor c = is_left _ _ _ _
 
-pub returns-then-next-floor : goal.returns-then-next-floor
-unfolding pushes_word
-returns-then-next-floor c = is_left _ _ _ _
-
 pub returns : goal.returns
 unfolding pushes_word
 returns c = is_made _ _ _ _ _ _ (after _ _ _ _ _

@@ -3,15 +3,10 @@ use mathlib.Core.Path.{refl, sym, ◌∙◌}
 use Rattle.plain.proofs.Hopping.{hopped}
 use Rattle.plain.proofs.step.Goals as goal
 
-pub returns-in-Some-2 : goal.returns-in-Some-2
+pub returns : goal.returns
 unfolding Plainly
-returns-in-Some-2 c = hopped _ _ _ _ _ _ _ _ c.if-c-floor.false
-    c.peek.ensures
-    (sym c.decode-decoded.ensures
-    ∙ c.in-Some.is)
-    refl
-    (rw c.in-Some-2.is at c.execute-t.ensures)
+returns c = hopped _ _ _ _ _ _ _ _ c.if-c-floor.false c.peek.ensures (sym c.decode.ensures ∙ c.in_ok-i.was) refl c.in_ok-registers.ensures
 
-pub returns-in-None-2 : goal.returns-in-None-2
+pub returns-in_err-registers : goal.returns-in_err-registers
 unfolding Plainly
-returns-in-None-2 c = rw c.in-None-2.is at c.execute-t.ensures
+returns-in_err-registers c = rw c.from_residual-in_err-registers.ensures c.in_err-registers.ensures

@@ -8,10 +8,6 @@ pub returns-then-at-floor : goal.returns-then-at-floor
 unfolding stores_word
 returns-then-at-floor c = is_left _ _ _ _
 
-pub returns-then-next-floor : goal.returns-then-next-floor
-unfolding stores_word
-returns-then-next-floor c = is_left _ _ _ _
-
 pub returns : goal.returns
 unfolding stores_word
 returns c = is_made _ _ _ _ _ _ (after _ _ _ _ _
