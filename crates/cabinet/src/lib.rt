@@ -76,7 +76,7 @@ fn admit(image: &[u8], area: &[u8], m: Machine, terms: Terms) -> Result<(), Repl
     Ok(())
 }
 
-// The reply of a run that stopped.
+// The reply of a run that stopped. Neither type is this crate's, so no From can say it.
 fn stopped(s: Stop) -> Reply
     ensures { told_reply result ≡ told_stop s }
 {
@@ -141,6 +141,8 @@ pub fn power_on(image: &[u8], r: u32) -> Result<Machine, PowerRefusal>
 {
     power::power_on(image, r)
 }
+
+// The public calls keep the parameters that README and docs/CONTRACTS.md name; within, session, limit and watch go together as `Terms`.
 
 // Either run, leaping or single, watched: the same answer, and how many leaps there were or would have been.
 pub fn watch_either(

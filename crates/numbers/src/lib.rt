@@ -35,6 +35,7 @@ pub fn put(part: &mut [u8], number: u64)
     ensures { part.new ≡ little_endian (length part.old) number }
 {
     let mut rest = number;
+    // The part's length is the width, so no to_le_bytes has it.
     for byte in part.iter_mut() {
         *byte = (rest % 256) as u8;
         rest /= 256;

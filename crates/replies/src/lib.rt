@@ -29,6 +29,7 @@ impl Reply {
     pub fn number(self) -> u8
         ensures { result ≡ (told_reply self).number }
     {
+        // Some replies carry a record and 10 is none, so no cast gives the number.
         match self {
             Reply::Limit => 0,
             Reply::WrongImage => 1,

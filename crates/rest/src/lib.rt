@@ -56,6 +56,7 @@ fn copy_records(session: &[u8], from: usize, cycles: Cycles, buffer: &mut [u8])
         ≡ rest_from session.now cycles.0 from [] ++ drop (length session.now - from) buffer.old }
 {
     let mut at = from;
+    // From record to record, as the session's check goes: each says where the next begins.
     while at < session.len() {
         copy_record(session, at, cycles, at - from, buffer);
         at = session::next_at(session, at);

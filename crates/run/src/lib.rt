@@ -159,6 +159,7 @@ fn stride(terms: Terms, s: State, image: &mut [u8]) -> State
     let mut c = m.chip.registers;
     let mut cycles = 0;
     let mut instructions = 0;
+    // Straight, with its two exits: this runs once for each plain instruction.
     loop {
         if (room <= cycles) | c.idles() | (c.codes.i != masked) {
             return strode(s, c, Cycles(cycles), Instructions(instructions));
@@ -172,7 +173,7 @@ fn stride(terms: Terms, s: State, image: &mut [u8]) -> State
     }
 }
 
-// What either run does between two boundaries.
+// What either run does between two boundaries. The flag stays a flag: as a closure its law would stand in each caller's clause.
 fn pace(leaping: bool, terms: Terms, s: State, image: &mut [u8]) -> State
     requires { Fine s × (terms.limit ≤ 1000000000) }
     ensures { Paced (terms_of terms.entry) s image.old result image.new }
