@@ -7,10 +7,7 @@ use std::io::Read;
 
 // Whether the input has ended: one more read gives nothing, and does not fail.
 fn has_ended(source: &mut impl Read) -> bool {
-    match host::what_follows(source) {
-        Rest::Nothing => true,
-        _ => false,
-    }
+    matches!(host::what_follows(source), Rest::Nothing)
 }
 
 fn main(rt: HostRuntime) {

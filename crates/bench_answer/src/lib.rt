@@ -36,8 +36,7 @@ fn report(ran: Ran) -> Line
 fn powered(session: &[u8], n: u32, r: u32, image: &mut [u8]) -> Line
     ensures { result ≡ puts_of empty_line (powered_text image.old session.now n (power_answer image.old r)) }
 {
-    let power = cabinet::power_on(&image[..], r);
-    match power {
+    match cabinet::power_on(&image[..], r) {
         Err(PowerRefusal::WrongImage) => lines::refused(1),
         Err(PowerRefusal::WrongStart) => lines::refused(2),
         Ok(m) => {

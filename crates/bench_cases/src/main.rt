@@ -1,36 +1,22 @@
 // The bench program's line for each of many inputs, which stand one after the other, each after its length in two bytes.
 #![tactic(auto)]
 
-ghost use Rattle.std.specs.Prelude.{◌≤◌, ◌<◌, length};
+ghost use Rattle.std.specs.Prelude.{◌<◌, length, IfSome};
 
-fn wide(b: u8) -> usize
-    ensures { result < 256 }
+// The first input's line is shown, where all of it is there; what follows it is left.
+fn show_first<'a>(rt: &impl Print, cases: &'a [u8]) -> Option<&'a [u8]>
+    ensures { IfSome result (λ left. length left.now < length cases.now) }
 {
-    b as usize
-}
-
-// The place after the input at a place, which is shown where all of it is there.
-fn show(rt: &impl Print, cases: &[u8], at: usize) -> usize
-    requires { at < length cases.now }
-    ensures { (at < result) × (result ≤ length cases.now) }
-{
-    if cases.len() - at < 2 {
-        return cases.len();
-    }
-    let size = wide(cases[at]) + 256 * wide(cases[at + 1]);
-    let from = at + 2;
-    if cases.len() - from < size {
-        return cases.len();
-    }
-    let to = from + size;
-    bench_answer::answer(&cases[from..to]).print(rt);
-    to
+    let (size, rest) = cases.split_first_chunk::<2>()?;
+    let (input, left) = rest.split_at_checked(u16::from_le_bytes(*size) as usize)?;
+    bench_answer::answer(input).print(rt);
+    Some(left)
 }
 
 fn show_all(rt: &impl Print, cases: &[u8]) {
-    let mut at = 0;
-    while at < cases.len() {
-        at = show(rt, cases, at);
+    let mut left = cases;
+    while let Some(rest) = show_first(rt, left) {
+        left = rest;
     }
 }
 

@@ -117,6 +117,7 @@ pub fn read_call(kinds: &[Kind]) -> Option<Call>
 }
 
 // A name and an ending are put at the buffer's front; the answer is how many bytes they are, 0 where the buffer is too short.
+// The length stands beside the buffer, which the caller lends: there is no heap, and `joined_of` goes by its room.
 pub fn joined(name: &[u8], ending: &[u8], buffer: &mut [u8]) -> usize
     ensures prefix_len { IsPrefixLen result buffer.new }
     ensures buffer_after { take result buffer.new ≡ joined_of name.now ending.now (length buffer.old) }

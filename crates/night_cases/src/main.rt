@@ -40,9 +40,8 @@ fn show_night(
     let size = session.len();
     let mut area = [0u8; 128];
     let mut none = [0u8; 0];
-    let power = cabinet::power_on(&image[..], 65536);
-    match power {
-        Ok(m) => night_slices::run_night(
+    if let Some(m) = switch_on(rt, &image[..]) {
+        night_slices::run_night(
             rt,
             image,
             &mut area,
@@ -56,16 +55,22 @@ fn show_night(
             spare,
         )
         .line()
-        .print(rt),
-        _ => Line::empty().text(b"no machine\n").print(rt),
+        .print(rt);
     }
 }
 
+// The machine that power-on gives, or a line that there is none.
+fn switch_on(rt: &impl Print, image: &[u8]) -> Option<Machine> {
+    let m = cabinet::power_on(image, 65536).ok();
+    if m.is_none() {
+        Line::empty().text(b"no machine\n").print(rt);
+    }
+    m
+}
+
 fn install(image: &mut [u8], at: usize, code: &[u8]) {
-    if at <= image.len() {
-        if code.len() <= image.len() - at {
-            numbers::copy(code, &mut image[at..]);
-        }
+    if at <= image.len() && code.len() <= image.len() - at {
+        numbers::copy(code, &mut image[at..]);
     }
 }
 
@@ -108,8 +113,8 @@ fn show_stopped(rt: &impl Print) {
 
 fn show_bytes(rt: &impl Print, name: &[u8], bytes: &[u8]) {
     let mut line = Line::empty().text(name);
-    for at in 0..bytes.len() {
-        line = line.byte(bytes[at]);
+    for byte in bytes {
+        line = line.byte(*byte);
     }
     line.text(b"\n").print(rt);
 }
@@ -168,25 +173,22 @@ const WAKING: [u8; 42] =
 fn show_waking(rt: &impl Print, asked: bool, log: &mut [u8], further: &mut [u8]) {
     let mut image = rom(&WAITING);
     let mut session = WAKING;
-    let power = cabinet::power_on(&image, 65536);
-    match power {
-        Ok(m) => {
-            let night = show_logged(rt, &mut image, m, &mut session, 42, 1000000100, asked, log);
-            if night.left > 0 {
-                let left = night.machine;
-                show_logged(
-                    rt,
-                    &mut image,
-                    left,
-                    &mut session,
-                    night.length,
-                    night.left,
-                    asked,
-                    further,
-                );
-            }
-        }
-        _ => Line::empty().text(b"no machine\n").print(rt),
+    let Some(m) = switch_on(rt, &image) else {
+        return;
+    };
+    let night = show_logged(rt, &mut image, m, &mut session, 42, 1000000100, asked, log);
+    if night.left > 0 {
+        let left = night.machine;
+        show_logged(
+            rt,
+            &mut image,
+            left,
+            &mut session,
+            night.length,
+            night.left,
+            asked,
+            further,
+        );
     }
 }
 
@@ -229,16 +231,12 @@ fn show_areas(rt: &impl Print) {
     let mut session = *b"\x06\0\x04\0\x07\xCA\x9A\x3B";
     let mut short = [0x20u8; 127];
     let mut area = [0x20u8; 128];
-    let power = cabinet::power_on(&image, 65536);
-    match power {
-        Ok(m) => {
-            let night = show_area(rt, &mut image, &mut short, m, &mut session);
-            show_bytes(rt, b"ram ", &image[0x80..0x8A]);
-            let left = night.machine;
-            show_area(rt, &mut image, &mut area, left, &mut session);
-            show_bytes(rt, b"ram ", &image[0x80..0x8A]);
-        }
-        _ => Line::empty().text(b"no machine\n").print(rt),
+    if let Some(m) = switch_on(rt, &image) {
+        let night = show_area(rt, &mut image, &mut short, m, &mut session);
+        show_bytes(rt, b"ram ", &image[0x80..0x8A]);
+        let left = night.machine;
+        show_area(rt, &mut image, &mut area, left, &mut session);
+        show_bytes(rt, b"ram ", &image[0x80..0x8A]);
     }
 }
 

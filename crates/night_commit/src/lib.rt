@@ -183,7 +183,8 @@ pub fn carry(rt: &impl Files, first: Op, own: bool, places: Places) -> Op
     op
 }
 
-// An open file's bytes, all of them, are put at the buffer's front; 0 where they cannot be read or there are more.
+// An open file's bytes, all of them, are put at the buffer's front; 0 where they cannot be read or there are more. No bytes are no names
+// (`are_recorded`), so this needs no other answer.
 fn read_whole(file: impl Read + Drop, buffer: &mut [u8]) -> usize
     ensures { IsPrefixLen result buffer.new }
 {

@@ -140,7 +140,7 @@ fn slashes(names: &[u8]) -> usize
     names.iter().filter(|byte| **byte == b'/').count()
 }
 
-// How many files a night with these names has; 255 where they are too many.
+// How many files a night with these names has; 255 where they are too many. So says `files_of`, and `night_steps::next` counts up to it.
 #[tactic(auto, unfolding(crate::specs::Names::files_of))]
 pub fn files(names: &[u8]) -> u8
     ensures { result ≡ files_of names.now }

@@ -26,7 +26,8 @@ impl Refusal {
     }
 }
 
-// The files of a night by number: 0 image, 1 state, 2 rest, 3 output, 4 names, and from 5 on the further ones. The letters are the paragraphs of docs/NIGHT.md.
+// The files of a night by number, since the further ones are counted: 0 image, 1 state, 2 rest, 3 output, 4 names, and from 5 on the further ones.
+// The letters are the paragraphs of docs/NIGHT.md.
 #[derive(Clone, Copy)]
 pub enum Op {
     Find, // (a) well: STATE.done does not stand

@@ -16,7 +16,7 @@ pub fn first_bad(log: &[u8], rows: u32) -> Option<u32>
     (0..rows).find(|k| !wake_log::is_row(log, *k))
 }
 
-// A blank and a cause's name.
+// A blank and the name of a cause, by its byte in the log (`wake_log::Row`).
 fn named(line: Line, cause: u8) -> Line
     ensures { result ≡ puts_of line (cause_name cause) }
 {
