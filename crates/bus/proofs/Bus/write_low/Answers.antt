@@ -8,10 +8,10 @@ pub returns-clause-fact_2 : goal.returns-clause-fact_2
 returns-clause-fact_2 c = let a = c.args in
     let low = a.low.below in
     λ area. image_store a.self a.low.at a.v a.image.now _ area (c.is_memory.result && c.is_writable.result)
-        c.store.ensures
-        (rw (
-          c.is_memory.ensures,
-          c.is_writable.ensures,
-          c.register_at-which.ensures,
-        ))
-        (outside_no_area a.self.rame a.low.at (λ h. omega arith))
+    c.store.ensures
+    (rw (
+      c.is_memory.ensures,
+      c.is_writable.ensures,
+      c.register_at-which.ensures,
+    ))
+    (outside_no_area a.self.rame a.low.at (λ h. omega arith))
