@@ -19,11 +19,11 @@ fn make(rt: &impl Files, name: &[u8], bytes: &[u8]) -> bool {
         return false;
     };
     let written = host::write_all(&mut file, bytes);
-    if host::sync(file) & written {
-        return true;
+    let kept = host::sync(file) & written;
+    if !kept {
+        let _ = host::remove_file(rt, name);
     }
-    let _ = host::remove_file(rt, name);
-    false
+    kept
 }
 
 // The file of this name holds the bytes: made as BYTES.new, and put in its place.
@@ -33,11 +33,11 @@ fn put(rt: &impl Files, name: &[u8], bytes: &[u8]) -> bool {
     if !make(rt, &path[..n], bytes) {
         return false;
     }
-    if host::rename(rt, &path[..n], name).is_ok() {
-        return true;
+    let placed = host::rename(rt, &path[..n], name).is_ok();
+    if !placed {
+        let _ = host::remove_file(rt, &path[..n]);
     }
-    let _ = host::remove_file(rt, &path[..n]);
-    false
+    placed
 }
 
 // The same, and so on the device. A folder that cannot be opened is told before the file is replaced.
@@ -49,7 +49,12 @@ fn keep(rt: &impl Files, name: &[u8], bytes: &[u8]) -> bool {
     host::sync(home) & placed
 }
 
-fn tell(rt: &(impl Files + Print), name: &[u8], bytes: &[u8], answer: Result<Option<Span>, AssembleRefusal>) {
+fn tell(
+    rt: &(impl Files + Print),
+    name: &[u8],
+    bytes: &[u8],
+    answer: Result<Option<Span>, AssembleRefusal>,
+) {
     if keep(rt, name, bytes) {
         listing_answers::assembled_line(answer).print(rt);
     } else {
@@ -69,15 +74,13 @@ fn assemble(rt: &(impl Files + Print), name: &[u8], text: &[u8]) {
 
 fn assemble_file(rt: &(impl Files + Print), listing: &[u8], name: &[u8]) {
     let Ok(mut file) = host::open(rt, listing) else {
-        lines::refuse(rt, 33);
-        return;
+        return lines::refuse(rt, 33);
     };
     // A good text has at most 1,638,400 bytes, and a line is judged by its first 28: what is longer has its first bad line within these.
     let mut text = host::zeros::<1638428>();
     let n = host::read_full(&mut file, &mut text);
     if !host::is_read(&mut file, n == 1638428) {
-        lines::refuse(rt, 33);
-        return;
+        return lines::refuse(rt, 33);
     }
     assemble(rt, name, &text[..n]);
 }
@@ -87,9 +90,8 @@ fn main(rt: HostRuntime) {
     let n = host::argument(&rt, 1, &mut listing);
     let mut name = io::buffer();
     let m = host::argument(&rt, 2, &mut name);
-    if !host::has_argument(&rt, 2) | host::has_argument(&rt, 3) | (n == 0) | (m == 0) {
-        lines::refuse(&rt, 32);
-        return;
+    if !host::has_argument(&rt, 2) || host::has_argument(&rt, 3) || n == 0 || m == 0 {
+        return lines::refuse(&rt, 32);
     }
     assemble_file(&rt, &listing[..n], &name[..m]);
 }

@@ -10,36 +10,27 @@ use printing::Line;
 
 // The line ` touched K` where so many bytes of a buffer, from one on, are no longer EE.
 fn touched(line: Line, buffer: &[u8], from: usize) -> Line {
-    let mut n = 0u64;
-    for k in 0..buffer.len() {
-        if (from <= k) & (buffer[k] != 0xEE) {
-            n = std::num::wrapping_add_u64(n, 1);
-        }
-    }
+    let n = buffer
+        .iter()
+        .skip(from)
+        .filter(|&&byte| byte != 0xEE)
+        .count();
     if n == 0 {
         return line;
     }
-    lines::numbered(line, b" touched ", n)
+    lines::numbered(line, b" touched ", n as u64)
 }
 
 // How many bytes are not those of a memory, at its front.
 fn differing(memory: &[u8], bytes: &[u8]) -> u64 {
-    let mut n = 0u64;
-    for k in 0..bytes.len() {
-        if k < memory.len() {
-            if memory[k] != bytes[k] {
-                n = std::num::wrapping_add_u64(n, 1);
-            }
-        }
-    }
-    n
+    memory.iter().zip(bytes).filter(|(m, b)| m != b).count() as u64
 }
 
 // The bytes in hexadecimal, each after a blank.
 fn with_bytes(line: Line, bytes: &[u8]) -> Line {
     let mut shown = line;
-    for k in 0..bytes.len() {
-        shown = shown.text(b" ").byte(bytes[k]);
+    for &byte in bytes {
+        shown = shown.text(b" ").byte(byte);
     }
     shown
 }
@@ -139,18 +130,10 @@ fn attempt(rt: &impl Print, title: &[u8], text: &[u8]) {
     call_assemble(rt, title, text, &mut buffer);
 }
 
-fn install(image: &mut [u8], at: usize, code: &[u8]) {
-    if at <= image.len() {
-        if code.len() <= image.len() - at {
-            numbers::copy(code, &mut image[at..]);
-        }
-    }
-}
-
 // A range of an image that has this code where the range begins, and 41 elsewhere.
 fn show_code(rt: &impl Print, code: &[u8], first: u32, last: u32) {
     let mut image = [0x41u8; 65536];
-    install(&mut image, first as usize, code);
+    cases::install(&mut image, first as usize, code);
     show(rt, &image, first, last);
 }
 
@@ -240,15 +223,8 @@ fn nops(text: &mut [u8]) {
             .word((k % 65536) as u16)
             .text(b"  01        NOP\n");
         let bytes = line.bytes;
-        install(text, 20 * k as usize, asking::filled(&bytes, 20));
+        cases::install(text, 20 * k as usize, asking::filled(&bytes, 20));
     }
-}
-
-// Room for 70,000 lines of 20 characters.
-fn many_lines() -> [u8; 1400000]
-    ensures { 1400000 ≡ length result }
-{
-    [0; 1400000]
 }
 
 // A text, with room for so many of 65,536 bytes.
@@ -265,7 +241,8 @@ fn back_whole(rt: &impl Print, image: &[u8], text: &[u8]) {
 
 fn many(rt: &impl Print) {
     let image = [1u8; 65536];
-    let mut text = many_lines();
+    // 70,000 lines of 20 characters.
+    let mut text = host::zeros::<1400000>();
     nops(&mut text);
     assemble_many(rt, b"70000 lines", &text, 65536);
     assemble_many(rt, b"65537 lines", asking::filled(&text, 1310740), 65536);
@@ -308,23 +285,16 @@ fn next_at(input: &[u8], at: usize) -> usize {
 // The record at a place, empty past the end.
 fn record_at(input: &[u8], at: usize) -> &[u8] {
     let end = next_at(input, at);
-    if at < input.len() {
-        if 2 <= input.len() - at {
-            let from = at + 2;
-            if from <= end {
-                if end <= input.len() {
-                    return &input[from..end];
-                }
-            }
-        }
-    }
-    &input[..0]
+    input
+        .get(at..end)
+        .and_then(|record| record.get(2..))
+        .unwrap_or(b"")
 }
 
 // So many ranges from a place on; where the record after them is.
 fn show_ranges(rt: &impl Print, input: &[u8], from: usize, count: u16) -> usize {
     let mut at = from;
-    for k in 0..count {
+    for _ in 0..count {
         let range = record_at(input, at);
         if 4 <= range.len() {
             show_code(
@@ -341,7 +311,7 @@ fn show_ranges(rt: &impl Print, input: &[u8], from: usize, count: u16) -> usize 
 
 fn try_texts(rt: &impl Print, input: &[u8], from: usize, count: u16) {
     let mut at = from;
-    for k in 0..count {
+    for _ in 0..count {
         let text = next_at(input, at);
         attempt(rt, record_at(input, at), record_at(input, text));
         at = next_at(input, text);

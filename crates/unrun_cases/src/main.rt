@@ -100,17 +100,9 @@ fn list(rt: &impl Print, title: &[u8], image: &[u8], first: u32, last: u32, file
     host::show(rt, asking::filled(&buffer, characters(marked)));
 }
 
-fn install(image: &mut [u8], at: usize, code: &[u8]) {
-    if at <= image.len() {
-        if code.len() <= image.len() - at {
-            numbers::copy(code, &mut image[at..]);
-        }
-    }
-}
-
 fn listings(rt: &impl Print, file: &[u8]) {
     let mut image = [0u8; 65536];
-    install(
+    cases::install(
         &mut image,
         0xF200,
         b"\x96\x11\x85\x40\x27\x03\x7C\x00\x82\x96\x12\x7C\x00\x83\x97\x13\x3B\x7E\xF2\x00\x96\x12\x20\xFE\x01\x7E\xF2\x00",
