@@ -86,7 +86,7 @@ fn refusal(fault: Fault, line: usize) -> AssembleRefusal
     }
 }
 
-// The first pass: nothing is written. The answer is how many bytes a text has.
+// The first pass, a `while` as the second, since the step is the line's own length: nothing is written. The answer is how many bytes a text has.
 fn check(keys: &[u64], text: &[u8]) -> Result<usize, AssembleRefusal>
     requires { Keys keys.now }
     ensures { result ≡ checked_of 0 (outcome_of text.now) }

@@ -1,7 +1,6 @@
 // The lister program: IMAGE FIRST LAST. It prints the listing of a range of the image, or one refusal.
 #![tactic(auto)]
 
-use listing::ListRefusal;
 use std::fs::Files;
 
 // The listing of a file's bytes.
@@ -12,9 +11,7 @@ fn list(rt: &impl Print, image: &[u8], first: u32, last: u32) {
         Ok(n) => {
             host::show(rt, asking::filled(&buffer, n));
         }
-        Err(ListRefusal::WrongImage) => lines::refuse(rt, 1),
-        Err(ListRefusal::WrongRange) => lines::refuse(rt, 22),
-        Err(ListRefusal::NoRoom) => lines::refuse(rt, 23),
+        Err(refusal) => lines::refuse(rt, refusal.number()),
     }
 }
 

@@ -1,7 +1,8 @@
 // The lister: a range of an image as text (specs/Listing.antt; listing_lines has the form of a line).
 #![tactic(auto)]
 
-ghost use Rattle.std.specs.Prelude.{◌≡◌, ◌+◌, ◌≤◌, ◌<◌, length, take};
+ghost use Rattle.asking.specs.Asking.{replies};
+ghost use Rattle.std.specs.Prelude.{Err, ◌≡◌, ◌+◌, ◌≤◌, ◌<◌, length, take};
 ghost use Rattle.std.proofs.lemmas.List.Edits.{sets};
 ghost use Rattle.listing_lines.specs.Lines.{bytes_of, item_line};
 ghost use Rattle.listing.specs.Listing.{image_byte, fitting_in, shown_at, listing_from, told_listed, is_bad_range, list_answer, list_buffer};
@@ -15,6 +16,19 @@ pub enum ListRefusal {
     WrongImage,
     WrongRange,
     NoRoom,
+}
+
+impl ListRefusal {
+    // The number by which a call tells it.
+    pub fn number(self) -> u8
+        ensures { told_listed (Err self) ≡ replies result }
+    {
+        match self {
+            ListRefusal::WrongImage => 1,
+            ListRefusal::WrongRange => 22,
+            ListRefusal::NoRoom => 23,
+        }
+    }
 }
 
 // The byte at an address, 0 past the image.
@@ -67,7 +81,7 @@ pub fn line_at(image: &[u8], address: usize, shown: Option<Instruction>) -> Text
     )
 }
 
-// How many characters the listing has: nothing is written.
+// How many characters the listing has: nothing is written. A `while`, as in `write`: the step is the line's own length, which no range counts.
 fn measure(image: &[u8], first: usize, last: usize) -> usize
     requires { (first ≤ last) × (last < 65536) }
     ensures { result ≡ length (listing_from image.now last first) }

@@ -47,9 +47,7 @@ fn with_address(line: Line, address: u32) -> Line {
 fn with_listed(line: Line, listed: Result<usize, ListRefusal>) -> Line {
     match listed {
         Ok(n) => lines::numbered(line, b" wrote ", n as u64),
-        Err(ListRefusal::WrongImage) => line.text(b" refused 1"),
-        Err(ListRefusal::WrongRange) => line.text(b" refused 22"),
-        Err(ListRefusal::NoRoom) => line.text(b" refused 23"),
+        Err(refusal) => lines::numbered(line, b" refused ", refusal.number() as u64),
     }
 }
 

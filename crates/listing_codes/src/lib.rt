@@ -10,7 +10,7 @@ use bits::{lower, minus, plus, upper};
 use listing_lines::Form;
 use opcodes::{Instruction, Place};
 
-// The bytes of a line, `length` of them; the others are 0.
+// The bytes of a line, `length` of them; the others are 0. By name, and no buffer: `piece` of specs/Codes.antt tells them so, and each form writes its own.
 #[derive(Clone, Copy)]
 pub struct Piece {
     pub address: u16,

@@ -45,7 +45,7 @@ fn word_digits(v: u16) -> [u8; 4]
     ]
 }
 
-// Columns 1 to 16: the address, and eight characters between blanks.
+// Columns 1 to 16: the address, and eight characters between blanks. Cell by cell, as in `joined`: the check computes the line from its cells.
 fn head(address: u16, column: [u8; 8]) -> [u8; 16]
     ensures { result ≡ head_of address column }
 {

@@ -1,7 +1,8 @@
 // The lister with a map: a column of two characters before each line tells what of it has run (specs/Marks.antt).
 #![tactic(auto)]
 
-ghost use Rattle.std.specs.Prelude.{◌≡◌, ◌+◌, ◌-◌, ◌*◌, ◌≤◌, ◌<◌, length};
+ghost use Rattle.asking.specs.Asking.{replies};
+ghost use Rattle.std.specs.Prelude.{Err, ◌≡◌, ◌+◌, ◌-◌, ◌*◌, ◌≤◌, ◌<◌, length};
 ghost use Rattle.std.proofs.lemmas.List.Edits.{sets};
 ghost use Rattle.listing_lines.specs.Lines.{bytes_of};
 ghost use Rattle.listing_marks.specs.Marks.{mark_of, marked_line, marked_listing, told_marked, marked_answer, marked_buffer};
@@ -16,6 +17,20 @@ pub enum MarkRefusal {
     WrongRange,
     WrongMap,
     NoRoom,
+}
+
+impl MarkRefusal {
+    // The number by which a call tells it.
+    pub fn number(self) -> u8
+        ensures { told_marked (Err self) ≡ replies result }
+    {
+        match self {
+            MarkRefusal::WrongImage => 1,
+            MarkRefusal::WrongRange => 22,
+            MarkRefusal::WrongMap => 15,
+            MarkRefusal::NoRoom => 23,
+        }
+    }
 }
 
 // What the column has before the line of so many bytes at an address.
@@ -57,7 +72,7 @@ fn put_line(
     text.len() + 2
 }
 
-// The listing with its column is put at the buffer's front; the answer is how many characters it has.
+// The listing with its column is put at the buffer's front; the answer is how many characters it has. A `while`: the step is the line's own length.
 fn write(map: &[u8], image: &[u8], first: usize, last: usize, buffer: &mut [u8]) -> usize
     requires { (first ≤ last) × (last < 65536) × (30 * (last + 1 - first) ≤ length buffer.old) }
     ensures { let text = marked_listing map.now image.now last first in

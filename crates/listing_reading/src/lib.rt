@@ -56,7 +56,7 @@ pub fn address_in(line: &[u8]) -> u16
     word_in(line, 1)
 }
 
-// Columns 7 to 14.
+// Columns 7 to 14. One by one: an array made by a function would need a contract for that function alone, and be no shorter.
 fn column_in(line: &[u8]) -> [u8; 8]
     ensures { result ≡ column_in line.now }
 {

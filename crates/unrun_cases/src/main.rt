@@ -80,10 +80,7 @@ fn full(rt: &impl Print) {
 fn told(line: Line, marked: Result<usize, MarkRefusal>) -> Line {
     match marked {
         Ok(n) => lines::numbered(line, b" wrote ", n as u64),
-        Err(MarkRefusal::WrongImage) => line.text(b" refused 1"),
-        Err(MarkRefusal::WrongRange) => line.text(b" refused 22"),
-        Err(MarkRefusal::WrongMap) => line.text(b" refused 15"),
-        Err(MarkRefusal::NoRoom) => line.text(b" refused 23"),
+        Err(refusal) => lines::numbered(line, b" refused ", refusal.number() as u64),
     }
 }
 
