@@ -26,10 +26,10 @@ struct Start {
 // How many bytes of the image, the area, the output and the log a case lends, whether the log is asked for, and N.
 #[derive(Clone, Copy)]
 struct Lends {
-    image: isize,
-    area: isize,
-    output: isize,
-    log: isize,
+    image: usize,
+    area: usize,
+    output: usize,
+    log: usize,
     logs: bool,
     n: u32,
 }
@@ -190,10 +190,6 @@ fn lend(rt: &impl Print, leaping: bool, code: &[u8], session: &[u8], m: Machine,
     let mut area = outside();
     let mut output = [0xEEu8; 1];
     let mut log = [0xEEu8; 8];
-    let long = io::count(l.image, &image);
-    let wide = io::count(l.area, &area);
-    let room = io::count(l.output, &output);
-    let rows = io::count(l.log, &log);
     run(
         rt,
         leaping,
@@ -201,10 +197,10 @@ fn lend(rt: &impl Print, leaping: bool, code: &[u8], session: &[u8], m: Machine,
         session,
         m,
         l,
-        &mut image[..long],
-        &mut area[..wide],
-        &mut output[..room],
-        &mut log[..rows],
+        &mut image[..l.image.min(65536)],
+        &mut area[..l.area.min(129)],
+        &mut output[..l.output.min(1)],
+        &mut log[..l.log.min(8)],
     );
 }
 
@@ -365,7 +361,7 @@ fn waits(rt: &impl Print) {
 }
 
 // The case `NMI` with the log asked for.
-fn logged(rt: &impl Print, title: &[u8], area: isize, log: isize) {
+fn logged(rt: &impl Print, title: &[u8], area: usize, log: usize) {
     let l = Lends {
         area,
         log,
@@ -402,7 +398,7 @@ fn bad_sessions(rt: &impl Print, l: Lends) {
 }
 
 // An area of so many bytes, alone and with each other refusal.
-fn refusals(rt: &impl Print, title: &[u8], area: isize) {
+fn refusals(rt: &impl Print, title: &[u8], area: usize) {
     let l = Lends { area, ..whole(30) };
     let short = Lends { image: 65535, ..l };
     let long = Lends { n: 1000000001, ..l };

@@ -58,7 +58,7 @@ pub fn pliruzza_assemble(text: &[u8], buffer: &mut [u8], res: &mut [u8]) -> u32
     board_listing::assemble(text, buffer, res)
 }
 
-// Either run of a saved machine, which is saved again where it was.
+// Either run of a saved machine, which is saved again where it was. What it is lent comes apart, as the calls of board/pliruzza.h have it.
 fn run_call(
     leaping: bool,
     image: &mut [u8],
@@ -80,8 +80,7 @@ fn run_call(
     if res.len() < size {
         return 29;
     }
-    let loaded = saved::load(&machine[..]);
-    match loaded {
+    match saved::load(machine) {
         Ok(m) => {
             let e = cabinet::watch_either(leaping, image, area, m, session, n, watch, output, log);
             let ran = e.ran;

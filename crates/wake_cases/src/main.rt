@@ -1,8 +1,6 @@
 // The wake log in single and leaping runs side by side: docs/CASES.md works the expected lines from 02 and its readings.
 #![tactic(auto)]
 
-ghost use Rattle.io.specs.Counts.{IsPrefixLen};
-
 use bits::Flag;
 use boundary::Watch;
 use cabinet::Ran;
@@ -119,27 +117,18 @@ fn show(rt: &impl Print, r: Ran, log: &[u8]) {
     show_bytes(rt, log);
 }
 
-// How much of a buffer is lent.
-fn lent(room: usize, buffer: &[u8]) -> usize
-    ensures { IsPrefixLen result buffer.now }
-{
-    room.min(buffer.len())
-}
-
 // Either run, watched.
 fn run(rt: &impl Print, leaping: bool, opcode: u8, session: &[u8], s: Start, room: Room) {
     let mut image = rom(opcode);
     let mut area = [0u8; 128];
     let mut output = [0u8; 1];
     let mut log = [0xEEu8; 24];
-    let sent = lent(room.output, &output);
-    let long = lent(room.log, &log);
     let Ok(m) = cabinet::power_on(&image, 65536) else {
         return;
     };
     let start = started(m, s);
-    let output = &mut output[..sent];
-    let log = &mut log[..long];
+    let output = &mut output[..room.output.min(1)];
+    let log = &mut log[..room.log.min(24)];
     if leaping {
         let l = cabinet::watch_leaping(
             &mut image, &mut area, start, session, room.n, room.watch, output, log,
