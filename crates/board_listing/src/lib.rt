@@ -7,7 +7,6 @@ ghost use Rattle.board_results.specs.Returned.{returned};
 ghost use Rattle.board_listing.specs.Calls.{list_call, span_in, assemble_call};
 
 use assembling::{AssembleRefusal, Span};
-use listing::ListRefusal;
 
 // The listing of first to last, both included.
 pub fn list(image: &[u8], first: u32, last: u32, buffer: &mut [u8], res: &mut [u8]) -> u32
@@ -19,9 +18,7 @@ pub fn list(image: &[u8], first: u32, last: u32, buffer: &mut [u8], res: &mut [u
     }
     match listing::list(image, first, last, buffer) {
         Ok(n) => board_results::tell(0, n, res),
-        Err(ListRefusal::WrongImage) => 1,
-        Err(ListRefusal::WrongRange) => 22,
-        Err(ListRefusal::NoRoom) => 23,
+        Err(refusal) => refusal.number() as u32,
     }
 }
 

@@ -1,6 +1,7 @@
 -- `board_listing::list` meets its contract: each way that the call can end is a law of Calls. Assumes nothing.
-use mathlib.Core.Path.{◌∙◌}
+use mathlib.Core.Path.{sym, ap, ◌∙◌}
 use Rattle.board_results.proofs.Returned.{returned_told}
+use Rattle.board_listing.specs.Calls.{on_list}
 use Rattle.board_listing.proofs.Calls.{list_short, list_left}
 use Rattle.board_listing.proofs.list.Goals as goal
 
@@ -13,17 +14,8 @@ returns-in-Ok c = let a = c.args in
     ∙ list_left a.image.now a.first a.last a.buffer.now a.res.now _
     c.if-res-lt8.false c.list.ensures c.in-Ok.is
 
-pub returns-in-Err-WrongImage : goal.returns-in-Err-WrongImage
-returns-in-Err-WrongImage c = let a = c.args in
-    list_left a.image.now a.first a.last a.buffer.now a.res.now _
-    c.if-res-lt8.false c.list.ensures (rw c.in-Err-WrongImage.field-0-is at c.in-Err-WrongImage.is)
-
-pub returns-in-Err-WrongRange : goal.returns-in-Err-WrongRange
-returns-in-Err-WrongRange c = let a = c.args in
-    list_left a.image.now a.first a.last a.buffer.now a.res.now _
-    c.if-res-lt8.false c.list.ensures (rw c.in-Err-WrongRange.field-0-is at c.in-Err-WrongRange.is)
-
-pub returns-in-Err-NoRoom : goal.returns-in-Err-NoRoom
-returns-in-Err-NoRoom c = let a = c.args in
-    list_left a.image.now a.first a.last a.buffer.now a.res.now _
-    c.if-res-lt8.false c.list.ensures (rw c.in-Err-NoRoom.field-0-is at c.in-Err-NoRoom.is)
+pub returns-in-Err : goal.returns-in-Err
+returns-in-Err c = let a = c.args in
+    ap (on_list _ a.res.now) (sym c.number.ensures)
+    ∙ list_left a.image.now a.first a.last a.buffer.now a.res.now _
+    c.if-res-lt8.false c.list.ensures c.in-Err.is
