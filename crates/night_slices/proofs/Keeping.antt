@@ -1,8 +1,8 @@
 -- The laws of what a slice keeps: with room for the whole session there is room for its rest, which then stands in its place. Assumes nothing.
-use Rattle.std.proofs.Common.{◌≡◌, ℕ, ◌≤◌, true, false, List, ◌++◌, length, take, drop, sym, refl, ap, ◌∙◌, arith, length-take, length-take-le, take_all, take_at}
+use Rattle.std.proofs.Common.{◌≡◌, ℕ, ◌≤◌, true, false, List, ◌++◌, length, take, drop, sym, refl, ap, ◌∙◌, arith, length-take, length-take-le, take_at}
 use Rattle.laws.proofs.Conds.{picks, passes}
 use Rattle.session.specs.Session.{check_of}
-use Rattle.std.specs.Prelude.{Ok, Err, Result}
+use Rattle.std.specs.Prelude.{Ok, Result}
 use Rattle.replies.specs.Replies.{Told, stops}
 use Rattle.rest.specs.Rest.{place_of, rest_of}
 use Rattle.rest.specs.Answers.{rest_wrote, told_rest, rest_answer, rest_buffer}

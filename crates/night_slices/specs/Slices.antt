@@ -141,10 +141,13 @@ night_text s =
 abbrev pub SliceEnd : Type 0
 SliceEnd = Result Reply KeepRefusal
 
+abbrev pub keep_number : KeepRefusal → ℕ
+keep_number TooFew = 30
+keep_number NoRoom = 31
+
 abbrev pub told_slice_end : SliceEnd → Told
 told_slice_end (Ok r) = told_reply r
-told_slice_end (Err TooFew) = told 30 none
-told_slice_end (Err NoRoom) = told 31 none
+told_slice_end (Err k) = told (keep_number k) none
 
 abbrev pub kept : Kept → List ℕ → Keeping
 kept k session = keeping (told_slice_end k.ended) (take k.length session)

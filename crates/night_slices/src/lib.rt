@@ -6,7 +6,9 @@ ghost use Rattle.replies.specs.Replies.{told_reply, stops};
 ghost use Rattle.boundary.specs.World.{lent, lending, watching, logged_bytes};
 ghost use Rattle.printing.specs.Printing.{empty_line, puts_of};
 ghost use Rattle.night_lines.specs.NightLines.{slice_text, end_text};
-ghost use Rattle.night_slices.specs.Slices.{slice_cycles, keeping_of, kept, told_slice_end, ran_numbers, standing, beginning, next_of};
+ghost use Rattle.std.specs.Prelude.{Err};
+ghost use Rattle.rest.specs.Answers.{refuses, told_rest};
+ghost use Rattle.night_slices.specs.Slices.{keep_number, slice_cycles, keeping_of, kept, told_slice_end, ran_numbers, standing, beginning, next_of};
 ghost use Rattle.night_slices.specs.Slices.{slice_of, goes_on, night_of, night_text};
 
 use boundary::Watch;
@@ -24,6 +26,18 @@ use rest::RestRefusal;
 pub enum KeepRefusal {
     TooFew,
     NoRoom,
+}
+
+impl KeepRefusal {
+    // The number that a night tells.
+    fn number(self) -> u8
+        ensures { result ≡ keep_number self }
+    {
+        match self {
+            KeepRefusal::TooFew => 30,
+            KeepRefusal::NoRoom => 31,
+        }
+    }
 }
 
 // How a slice ended: with the run's reply, where its rest is kept.
@@ -107,6 +121,17 @@ fn announce(rt: &impl Print, number: u64, leapt: Leapt) {
     }
 }
 
+// How a slice ends whose rest is refused.
+fn end_of(refusal: RestRefusal) -> SliceEnd
+    ensures { refuses (told_slice_end result) ≡ told_rest (Err refusal) }
+{
+    match refusal {
+        RestRefusal::Bad(fault) => Ok(Reply::from(fault)),
+        RestRefusal::TooFew => Err(KeepRefusal::TooFew),
+        RestRefusal::NoRoom => Err(KeepRefusal::NoRoom),
+    }
+}
+
 // The rest of the session takes the session's place, where the run was not refused.
 fn keep(
     session: &mut [u8],
@@ -135,16 +160,8 @@ fn keep(
                 length: n,
             }
         }
-        Err(RestRefusal::Bad(fault)) => Kept {
-            ended: Ok(Reply::from(fault)),
-            length: size,
-        },
-        Err(RestRefusal::TooFew) => Kept {
-            ended: Err(KeepRefusal::TooFew),
-            length: size,
-        },
-        Err(RestRefusal::NoRoom) => Kept {
-            ended: Err(KeepRefusal::NoRoom),
+        Err(refusal) => Kept {
+            ended: end_of(refusal),
             length: size,
         },
     }
@@ -167,8 +184,7 @@ fn closing(ended: SliceEnd, slices: u64, n: Numbers, leaps: u64, c: Registers) -
     ensures { result ≡ puts_of empty_line (end_text (told_slice_end ended) slices n leaps c) }
 {
     match ended {
-        Err(KeepRefusal::TooFew) => lines::refused(30),
-        Err(KeepRefusal::NoRoom) => lines::refused(31),
+        Err(refusal) => lines::refused(refusal.number()),
         Ok(reply) => night_lines::end_line(reply, slices, n, leaps, c),
     }
 }

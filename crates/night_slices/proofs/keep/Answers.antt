@@ -1,10 +1,10 @@
 -- `night_slices::keep` meets its contract: the session, or its rest where crate rest wrote one. Assumes nothing.
-use Rattle.std.proofs.Common.{◌≡◌, true, length, take, sym, ap, ◌∙◌, arith, length-take-le}
-use Rattle.replies.specs.Replies.{Told, told_reply, stops}
+use Rattle.std.proofs.Common.{◌≡◌, true, take, sym, ap, ◌∙◌, arith, length-take-le}
+use Rattle.replies.specs.Replies.{told_reply, stops}
 use Rattle.rest.specs.Answers.{rest_wrote, told_rest, rest_answer}
 use Rattle.std.specs.Prelude.{Ok, Err}
-use Rattle.rest.specs.declared.RestRefusal.TheVariants.{Bad, TooFew, NoRoom}
-use Rattle.night_slices.specs.Slices.{keeping}
+use Rattle.rest.specs.Rest.{rest_of}
+use Rattle.night_slices.specs.Slices.{keeping, on_keep}
 use Rattle.night_slices.proofs.Keeping.{written_stands, keeps_refused, keeps_had, written_size, written_within, written_room}
 use Rattle.night_slices.proofs.keep.Goals as goal
 
@@ -49,29 +49,14 @@ returns-in-Ok c =
       written_size a.size a.session.now a.spare.now p.0 p.1 a.used.0 a.cycles.0 e,
     )
 
-pub returns-in-Bad : goal.returns-in-Bad
-returns-in-Bad c =
+pub returns-in-Err : goal.returns-in-Err
+returns-in-Err c =
     let a = c.args in
     let p = c.requires in
     let had = take a.size a.session.now in
-    let stopped : stops (told_reply a.reply).number ≡ true = sym c.is_stop.ensures ∙ c.if-not-is_stop.false in (
-      ap (λ (t : Told). keeping t had) c.refusal.ensures
-          ∙ keeps_had a.size a.session.now a.spare.now p.0 p.1 a.used.0 a.cycles.0 (told_reply a.reply) stopped (Err (Bad c.in-Bad.fault)) (sym (ap told_rest c.in-Bad.is) ∙ c.rest-rested.ensures.0),
+    let t = told_reply a.reply in
+    let stopped : stops t.number ≡ true = sym c.is_stop.ensures ∙ c.if-not-is_stop.false in (
+      ap (on_keep t had (rest_of had a.used.0 a.cycles.0)) c.end_of.ensures
+          ∙ keeps_had a.size a.session.now a.spare.now p.0 p.1 a.used.0 a.cycles.0 t stopped (Err c.in-Err.refusal) (sym (ap told_rest c.in-Err.is) ∙ c.rest-rested.ensures.0),
       omega arith,
     )
-
-pub returns-in-TooFew : goal.returns-in-TooFew
-returns-in-TooFew c =
-    let a = c.args in
-    let p = c.requires in
-    let had = take a.size a.session.now in
-    let stopped : stops (told_reply a.reply).number ≡ true = sym c.is_stop.ensures ∙ c.if-not-is_stop.false in
-    (keeps_had a.size a.session.now a.spare.now p.0 p.1 a.used.0 a.cycles.0 (told_reply a.reply) stopped (Err TooFew) (sym (ap told_rest c.in-TooFew.is) ∙ c.rest-rested.ensures.0), omega arith)
-
-pub returns-in-NoRoom : goal.returns-in-NoRoom
-returns-in-NoRoom c =
-    let a = c.args in
-    let p = c.requires in
-    let had = take a.size a.session.now in
-    let stopped : stops (told_reply a.reply).number ≡ true = sym c.is_stop.ensures ∙ c.if-not-is_stop.false in
-    (keeps_had a.size a.session.now a.spare.now p.0 p.1 a.used.0 a.cycles.0 (told_reply a.reply) stopped (Err NoRoom) (sym (ap told_rest c.in-NoRoom.is) ∙ c.rest-rested.ensures.0), omega arith)
