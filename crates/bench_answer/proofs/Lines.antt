@@ -1,6 +1,7 @@
 -- The bench program's line: it has at most 201 bytes, so that it is shown whole, and it is `refused 10` exactly where the input is
 -- bad. Assumes nothing.
-use Rattle.std.specs.Prelude.{Result, Ok, Err}
+use Rattle.std.specs.Prelude.{Result, Ok, Err, Some, None}
+use Rattle.std.specs.Prelude as maybe
 use Prim.Native.Nat.{ℕ, ◌≤◌}
 use native.Mathlib.Omega.{arith}
 use mathlib.Core.Path.{◌≡◌, refl, sym, ap, ◌∙◌}
@@ -19,8 +20,7 @@ use Rattle.machine.specs.Machine.{power_on_of}
 use Rattle.boundary.specs.World.{lent, terms}
 use Rattle.cabinet.specs.Answers.{Answer, answer_of}
 use Rattle.cabinet.proofs.Ends.{refusal_most}
-use Rattle.bench_input.specs.declared.Input.{Input}
-use Rattle.bench_input.specs.declared.Input.TheVariants.{Bad, Run}
+use Rattle.bench_input.specs.declared.Run.{Run}
 use Rattle.bench_input.specs.Input.{is_good, input_of}
 use Rattle.bench_input.proofs.Laws.{loaded_bad, loaded_run}
 use Rattle.printing.specs.declared.Line.{Line}
@@ -28,7 +28,7 @@ use Rattle.printing.specs.Printing.{ascii, empty_line, puts_of, shown, decimal_f
 use Rattle.printing.proofs.Shown.{shown_whole, Short, ◌then◌, short, decimal_short, one_digit}
 use Rattle.lines.specs.Lines.{refused_text, refusal}
 use Rattle.lines.proofs.Short.{counts_short, registers_short, refused_short}
-use Rattle.bench_answer.specs.Answer.{stop_text, text_of, powered_text, Request, told_input, input_text, line_of}
+use Rattle.bench_answer.specs.Answer.{stop_text, text_of, powered_text, told_input, input_text, line_of}
 
 -- how long each text can be
 stop_short : (a : Answer) → Short 200 (stop_text a)
@@ -49,7 +49,7 @@ unfolding powered_text
 power_short image session n (replies k) = refused_short k none
 power_short image session n (gives m) = text_short (answer_of (terms session n) m (lent image (replicate 128 0) (replicate 256 0)))
 
-input_short : (input : List ℕ) (g : Given Request) → Short 200 (input_text input g)
+input_short : (input : List ℕ) (g : Given Run) → Short 200 (input_text input g)
 unfolding input_text
 input_short input (replies k) = refused_short k none
 input_short input (gives q) = power_short _ _ q.n _
@@ -104,16 +104,16 @@ power_other image session n (Ok m) e =
     let given = lent image (replicate 128 0) (replicate 256 0) in
     text_other (answer_of (terms session n) m given) (refusal_most (terms session n) m given (length-replicate {A = ℕ} 128 0)) e
 
-input_other : (input : List ℕ) (n r start : ℕ) → IsTen (input_text input (told_input (Run n r start))) → ⊥
+input_other : (input : List ℕ) (q : Run) → IsTen (input_text input (told_input (Some q))) → ⊥
 unfolding input_text
-input_other input n r start e = power_other _ _ n (power_on_of _ r) e
+input_other input q e = power_other _ _ q.n (power_on_of _ q.r) e
 
-bad_ten : (input : List ℕ) → IsTen (input_text input (told_input Bad))
+bad_ten : (input : List ℕ) → IsTen (input_text input (told_input None))
 unfolding input_text refused_text decimal_from
 bad_ten input = refl
 
-told_line : (input : List ℕ) {l : Input} → input_of input ≡ l → line_of input ≡ input_text input (told_input l) ++ ascii "\n"
-told_line input e = ap (λ (l : Input). input_text input (told_input l) ++ ascii "\n") e
+told_line : (input : List ℕ) {l : maybe.Option Run} → input_of input ≡ l → line_of input ≡ input_text input (told_input l) ++ ascii "\n"
+told_line input e = ap (λ (l : maybe.Option Run). input_text input (told_input l) ++ ascii "\n") e
 
 -- reply 10: "the program's own input is bad"
 pub refused_10 : (input : List ℕ) → (line_of input ≡ ascii "refused 10\n") ↔ (is_good input ≡ false)
@@ -121,4 +121,4 @@ refused_10 input = (by (is_good input) refl, λ e. told_line input (sym (loaded_
   where
     by : (b : Bool) → is_good input ≡ b → line_of input ≡ ascii "refused 10\n" → is_good input ≡ false
     by false e t = e
-    by true e t = absurd (input_other input _ _ _ (sym (told_line input (loaded_run input [] e).0) ∙ t))
+    by true e t = absurd (input_other input _ (sym (told_line input (loaded_run input [] e).0) ∙ t))

@@ -1,5 +1,5 @@
 -- What 01's bench program prints.
-use Rattle.std.specs.Prelude.{ℕ, List, [], ◌++◌, cond, drop, replicate}
+use Rattle.std.specs.Prelude.{ℕ, List, [], ◌++◌, cond, drop, replicate, Option, Some, None}
 use Rattle.std.proofs.Math.Option.{none}
 use Rattle.asking.specs.Asking.{Given, gives, replies}
 use Rattle.power.specs.Power.{power_answer}

@@ -1,11 +1,12 @@
 // The bench program's answer to an input: one line, from the leaping run.
 #![tactic(auto)]
 
-ghost use Rattle.std.specs.Prelude.{◌≡◌, length};
-ghost use Rattle.power.specs.Power.{power_answer};
+ghost use Rattle.std.specs.Prelude.{◌≡◌, Err};
+ghost use Rattle.asking.specs.Asking.{replies};
+ghost use Rattle.power.specs.Power.{told_power, power_answer};
 ghost use Rattle.cabinet.specs.Answers.{answered};
 ghost use Rattle.printing.specs.Printing.{empty_line, puts_of};
-ghost use Rattle.bench_answer.specs.Answer.{nothing, stop_text, text_of, powered_text, unloaded, line_of, bad_line};
+ghost use Rattle.bench_answer.specs.Answer.{nothing, stop_text, text_of, powered_text, line_of, bad_line};
 
 use bench_input::Run;
 use cabinet::Ran;
@@ -32,13 +33,22 @@ fn report(ran: Ran) -> Line
     lines::refusal_line(reply)
 }
 
+// The number of the reply that refuses power-on.
+fn power_number(refusal: PowerRefusal) -> u8
+    ensures { told_power (Err refusal) ≡ replies result }
+{
+    match refusal {
+        PowerRefusal::WrongImage => 1,
+        PowerRefusal::WrongStart => 2,
+    }
+}
+
 // Power-on and the leaping run of what was loaded.
 fn powered(session: &[u8], n: u32, r: u32, image: &mut [u8]) -> Line
     ensures { result ≡ puts_of empty_line (powered_text image.old session.now n (power_answer image.old r)) }
 {
     match cabinet::power_on(&image[..], r) {
-        Err(PowerRefusal::WrongImage) => lines::refused(1),
-        Err(PowerRefusal::WrongStart) => lines::refused(2),
+        Err(refusal) => lines::refused(power_number(refusal)),
         Ok(m) => {
             let mut area = [0u8; 128];
             let mut output = [0u8; 256];

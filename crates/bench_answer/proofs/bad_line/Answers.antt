@@ -1,5 +1,4 @@
 -- `bad_line` meets its contract: the refusal, and then a newline. Assumes nothing.
-use borrow.Author.Rules.{rules}
 use Rattle.printing.proofs.Laws.{puts_then}
 use Rattle.bench_answer.specs.Answer.{input_text}
 use Rattle.bench_answer.proofs.bad_line.Goals as goal

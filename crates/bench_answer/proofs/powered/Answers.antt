@@ -1,5 +1,4 @@
 -- `powered` meets its contract: power-on's answer decides. Assumes nothing.
-use borrow.Author.Rules.{rules}
 use mathlib.Core.Path.{◌≡◌, refl, ap, ◌∙◌}
 use Rattle.boundary.specs.World.{Lent, lent}
 use Rattle.cabinet.specs.declared.Ran.{Ran}
@@ -13,17 +12,13 @@ text-alone : (r : Ran) (l : Lent) → text_of (answered r nothing) ≡ text_of (
 unfolding text_of stop_text
 text-alone r l = refl
 
-pub returns-in-Err-WrongImage : goal.returns-in-Err-WrongImage
+pub returns-in-Err : goal.returns-in-Err
 unfolding powered_text
-returns-in-Err-WrongImage c = rw (← c.power_on-power.ensures, c.in-Err-WrongImage.is) c.refused.ensures
-
-pub returns-in-Err-WrongStart : goal.returns-in-Err-WrongStart
-unfolding powered_text
-returns-in-Err-WrongStart c = rw (← c.power_on-power.ensures, c.in-Err-WrongStart.is) c.refused-in-Err-WrongStart.ensures
+returns-in-Err c = rw (← c.power_on.ensures, c.in-Err.is, c.power_number.ensures) c.refused.ensures
 
 pub returns-in-Ok : goal.returns-in-Ok
 unfolding powered_text
-returns-in-Ok c = rw (← c.power_on-power.ensures, c.in-Ok.is)
+returns-in-Ok c = rw (← c.power_on.ensures, c.in-Ok.is)
     (c.report.ensures
     ∙ ap (λ t. puts_of empty_line t)
     (text-alone c.run_leaping-leapt.result.ran (lent c.run_leaping-leapt.new.image c.run_leaping-leapt.new.area c.run_leaping-leapt.new.output)

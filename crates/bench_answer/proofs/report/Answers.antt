@@ -1,5 +1,4 @@
 -- `report` meets its contract: the reply is a stop, or a refusal. Assumes nothing.
-use borrow.Author.Rules.{rules}
 use Rattle.bench_answer.specs.Answer.{text_of}
 use Rattle.bench_answer.proofs.report.Goals as goal
 

@@ -1,5 +1,4 @@
 -- `stopped` meets its contract: the reply, the counts, and then the registers. Assumes nothing.
-use borrow.Author.Rules.{rules}
 use Rattle.printing.proofs.Laws.{puts_then}
 use Rattle.bench_answer.specs.Answer.{stop_text}
 use Rattle.bench_answer.proofs.stopped.Goals as goal
