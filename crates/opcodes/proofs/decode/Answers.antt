@@ -1,4 +1,5 @@
 -- `opcodes::decode` meets its contract: the opcodes of each arm by one comparison with the table. Assumes nothing.
+-- Given `row_at`, the check finds seven of the sixteen alone (tried): so that they stand together, each is here.
 use Rattle.std.proofs.Common.{ℕ, get_or, refl, arith, None}
 use Rattle.opcodes.proofs.Places.{row_at}
 use Rattle.opcodes.specs.Opcodes.{decode_of, branch_entry, row0, row1, row3}
