@@ -1,7 +1,8 @@
 // What reaches the system, by the bytes of a name or a text: standard output, streams that are read, arguments, files and folders.
 #![tactic(auto)]
 
-ghost use Rattle.std.specs.Prelude.{◌≡◌, length, replicate};
+ghost use Rattle.std.specs.Prelude.{ℕ, ◌≤◌, ◌≡◌, List, length, replicate};
+ghost use Rattle.std.specs.Fn.{FnOnceReturnsAt};
 ghost use Rattle.io.specs.Counts.{IsPrefixLen};
 
 use std::env::{Env, FillError};
@@ -87,6 +88,7 @@ pub fn argument(rt: &impl Env, i: usize, buffer: &mut [u8]) -> usize
 // What an argument is, by a function that reads its text. One that is missing or has more than 16 bytes is read as an empty one.
 pub fn argument_as<T, F: FnOnce(&[u8]) -> T>(rt: &impl Env, i: usize, read: F) -> T
     requires { F.IsAlwaysCallable read }
+    ensures { (text : List ℕ) × (length text ≤ 16) × FnOnceReturnsAt F.FnOnce read text result }
 {
     let mut text = [0u8; 16];
     let n = argument(rt, i, &mut text);
