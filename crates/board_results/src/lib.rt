@@ -41,7 +41,7 @@ fn write(number: u32, named: usize, counted: Counts, res: &mut [u8])
     numbers::put(&mut res[32..40], named as u64);
 }
 
-// The whole record: the leaps after these, where the run leaps.
+// The whole record: the leaps after these, where the run leaps. `leaping` stands beside the leaps: it is asked for (`record_size`) before there are any.
 fn record(leaping: bool, number: u32, named: usize, counted: Counts, leaps: Leaps, res: &mut [u8])
     requires { record_size leaping ≤ length res.old }
     ensures { res.new
