@@ -1,4 +1,5 @@
--- A byte and a word that are moved: the definitions that the units cite are the one over the weight of the top bit. Assumes nothing.
+-- Not to be believed, but proved: the law of the trait `Width`, whose proofs the check lets stand nowhere else. A byte and a word that are moved: the
+-- definitions that the units cite are the one over the weight of the top bit. Assumes nothing.
 use Rattle.std.specs.Prelude.{◌≡◌, ℕ, false, refl}
 use Rattle.arithmetic.specs.Results.{after, moved_of, moved16_of}
 use Rattle.arithmetic.specs.declared.Codes.{Codes}

@@ -73,7 +73,7 @@ added a = 0 ∷ 0 ∷ 0 ∷ 2 ∷ 0 ∷ 0 ∷ 0 ∷ 0 ∷ 0 ∷ 0 ∷ 0 ∷ 0 �
 
 -- opcodes 80 to FF as they are in memory, with the place, length and cycles of their row
 abbrev pub two_bytes_of : ℕ → Accumulator → Place → ℕ → ℕ → Option Instruction
-two_bytes_of low a place length cycles = is (slice_index_or (operations8 a) low (Dyadic Sub a)) place length ((cycles + slice_index (added a) low) % 2 ^ 8)
+two_bytes_of low a place length cycles = is (slice_index_or (operations8 a) low Jsr) place length ((cycles + slice_index (added a) low) % 2 ^ 8)
 
 -- opcodes 80 to 8F and C0 to CF
 abbrev pub immediate_of : Accumulator → ℕ → Option Instruction
