@@ -38,7 +38,7 @@ fn arms(f5: Flag, f6: Flag, f7: Flag) -> u8
     )
 }
 
-// The machine as bytes.
+// The machine as bytes, one a line as they lie.
 #[tactic(auto, unfolding(crate::specs::Layout::saved_of))]
 fn bytes_of(m: Machine) -> [u8; 42]
     ensures { result ≡ saved_of m }
@@ -50,8 +50,10 @@ fn bytes_of(m: Machine) -> [u8; 42]
     let s = b.serial;
     let [r0, r1, r2, r3] = b.r.to_le_bytes();
     [
+        // 0 and 1: the version
         1,
         0,
+        // 2 to 13: the processor and its two lines
         c.a,
         c.b,
         lower(c.x),
@@ -64,6 +66,7 @@ fn bytes_of(m: Machine) -> [u8; 42]
         u8::from(c.waiting),
         u8::from(m.nmi),
         u8::from(m.irq1),
+        // 14 to 20: the ports
         p.port1.direction,
         p.port1.latch,
         p.port1.pins,
@@ -71,6 +74,7 @@ fn bytes_of(m: Machine) -> [u8; 42]
         p.port2.latch,
         p.port2.pins,
         p.mode,
+        // 21 to 28: the timer
         t.tcsr(),
         lower(t.counter),
         upper(t.counter),
@@ -79,6 +83,7 @@ fn bytes_of(m: Machine) -> [u8; 42]
         lower(t.capture),
         upper(t.capture),
         u8::from(t.level),
+        // 29 to 37: the serial interface, the arms, $14 and busy
         s.rate,
         s.trcs(),
         s.received,
@@ -88,6 +93,7 @@ fn bytes_of(m: Machine) -> [u8; 42]
         b.ram_control(),
         lower(s.busy),
         upper(s.busy),
+        // 38 to 41: R
         r0,
         r1,
         r2,
