@@ -11,7 +11,7 @@ use borrow.Author.Tests.{eq-eqb, lt-ltb, le-ltb}
 use Rattle.laws.proofs.Conds.{picks, passes}
 use Rattle.laws.proofs.Lists.{no_bytes}
 use Rattle.numbers.specs.Numbers.{over}
-use Rattle.replies.specs.Replies.{Told, told, told_reply}
+use Rattle.replies.specs.Replies.{told, told_reply}
 use Rattle.machine.specs.declared.Machine.{Machine}
 use Rattle.boundary.specs.declared.Watch.{Watch}
 use Rattle.boundary.specs.World.{Lent, lent, lending, Terms, terms, watching, unwatched}
@@ -39,13 +39,11 @@ module _ (leaping : Bool) (t : Terms) (b : Buffers) where
       sym (passes _ _ (ap (ltb (length b.result)) (sym s) ∙ le-ltb _ _ h) ∙ ap (on_load leaping t b) (sym e ∙ ap told_loaded f))
 
   -- a machine outside its ranges
-  pub refused_2 : {u : Told} {k : ℕ} {r : List ℕ} → u ≡ told (unfit_reply b.lent.image b.lent.area) none
-      → (k ≡ u.number) × (r ≡ over (record_bytes leaping u no_counts 0) b.result)
+  pub refused_2 : {k : ℕ} {r : List ℕ} → k ≡ unfit_reply b.lent.image b.lent.area → r ≡ over (record_bytes leaping (told k none) no_counts 0) b.result
       → called k (buffers b.machine b.lent r) ≡ refused_call leaping b 2
-  refused_2 {u} {k} {r} e f =
-      ap (λ (k : ℕ). called k (buffers b.machine b.lent r)) f.0
-      ∙ ap (λ (r : List ℕ). called u.number (buffers b.machine b.lent r)) f.1
-      ∙ ap (λ (u : Told). reported leaping u no_counts 0 b) e
+  refused_2 {k} e f =
+      ap (λ (r : List ℕ). called k (buffers b.machine b.lent r)) f
+      ∙ ap (λ (k : ℕ). reported leaping (told k none) no_counts 0 b) e
 
   -- a machine that ran: what is saved and reported of an answer and its leaps
   abbrev told_of : Answer → ℕ → Called

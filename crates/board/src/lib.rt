@@ -91,8 +91,9 @@ fn run_call(
         Err(LoadRefusal::WrongVersion) => 27,
         Err(LoadRefusal::NoMachine) => 28,
         Err(LoadRefusal::WrongMachine) => {
-            let reply = board_results::unfit(image, area);
-            board_results::refuse(leaping, reply, res)
+            let number = board_results::unfit(image, area);
+            board_results::refuse(leaping, number, res);
+            number
         }
     }
 }

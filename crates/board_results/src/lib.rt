@@ -65,25 +65,24 @@ pub fn report(leaping: bool, reply: Reply, counted: Counts, leaps: Leaps, res: &
 }
 
 // The reply to a machine outside its ranges: image and area are tested first.
-pub fn unfit(image: &[u8], area: &[u8]) -> Reply
-    ensures { told_reply result ≡ told (unfit_reply image.now area.now) none }
+pub fn unfit(image: &[u8], area: &[u8]) -> u32
+    ensures { result ≡ unfit_reply image.now area.now }
 {
     if image.len() != 65536 {
-        return Reply::WrongImage;
+        return 1;
     }
     if area.len() != 128 {
-        return Reply::WrongArea;
+        return 12;
     }
-    Reply::WrongMachine
+    2
 }
 
-// The record of a refusal before a run: all counts zero.
-pub fn refuse(leaping: bool, reply: Reply, res: &mut [u8]) -> u32
+// The record of a refusal that names no record: all counts zero. It takes a number, as the C calls' results have it: a `Reply` has fewer.
+pub fn refuse(leaping: bool, number: u32, res: &mut [u8])
     requires { record_size leaping ≤ length res.old }
-    ensures { (result ≡ (told_reply reply).number)
-        × (res.new ≡ over (record_bytes leaping (told_reply reply) no_counts 0) res.old) }
+    ensures { res.new ≡ over (record_bytes leaping (told number none) no_counts 0) res.old }
 {
-    report(leaping, reply, Counts::default(), Leaps(0), res)
+    record(leaping, number, 0, Counts::default(), Leaps(0), res);
 }
 
 // A number in the result of a reply, which is returned.

@@ -76,7 +76,7 @@ fn admit(image: &[u8], area: &[u8], m: Machine, terms: Terms) -> Result<(), Repl
     Ok(())
 }
 
-// The reply of a run that stopped. Neither type is this crate's, so no From can say it.
+// The reply of a run that stopped: no From, since `told_stop` is this crate's word, and `boundary`, whose `Stop` it is, knows no replies.
 fn stopped(s: Stop) -> Reply
     ensures { told_reply result ≡ told_stop s }
 {

@@ -48,6 +48,6 @@ pub returns-in-Err-WrongMachine : goal.returns-in-Err-WrongMachine
 returns-in-Err-WrongMachine c = let a = c.args in
     let t = watching a.session.now a.n a.watch in
     let b = buffers a.machine.now (lending a.image.now a.area.now a.output.now a.log.now) a.res.now in
-    refused_2 a.leaping t b c.unfit-reply.ensures c.refuse.ensures
+    refused_2 a.leaping t b c.unfit-number.ensures c.refuse.ensures
     ∙ on_loaded a.leaping t b c.record_size-size.ensures c.if-res-size.false
     c.load.ensures _ (rw c.in-Err-WrongMachine.field-0-is at c.in-Err-WrongMachine.is)
