@@ -249,7 +249,7 @@ impl Core {
 }
 
 // The shapes of access.
-// (d) A byte and a word stay two functions each: the definitions' trees differ by an access, so that a trait over u8 and u16 would hold the same two bodies.
+// A byte and a word stay two functions each: the definitions' trees differ by an access, so that a trait over u8 and u16 would hold the same two bodies.
 impl Core {
     fn quiet(self, op: Quiet, at: u16) -> Core
         ensures { result ≡ with_registers self (quiet_of op at self.registers) }
