@@ -39,7 +39,8 @@ pub no_calls : map call_of (
     ∷ (Log ∷ Name ∷ Log ∷ Name ∷ Name ∷ Name ∷ Name ∷ Name ∷ Name ∷ Name ∷ [])  -- a log twice
     ∷ (Area ∷ Name ∷ Log ∷ Name ∷ Area ∷ Name ∷ Name ∷ Name ∷ Name ∷ Name ∷ Name ∷ Name ∷ [])  -- an area twice
     ∷ (Unknown ∷ Name ∷ Name ∷ Name ∷ Name ∷ Name ∷ Name ∷ Name ∷ [])  -- an unknown option
+    ∷ (Unknown ∷ Name ∷ Name ∷ Name ∷ Name ∷ Name ∷ Name ∷ Name ∷ [])  -- one that has no row: it is as unknown
     ∷ []
-    ) ≡ None ∷ None ∷ None ∷ None ∷ None ∷ None ∷ None ∷ []
+    ) ≡ None ∷ None ∷ None ∷ None ∷ None ∷ None ∷ None ∷ None ∷ []
 unfolding call_of call_from
 no_calls = refl
