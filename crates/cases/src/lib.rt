@@ -1,12 +1,17 @@
 // What the programs of cases share: code put into an image, and numbers after their names.
+// `number` and `hexadecimal` print, and what a terminal takes is in no contract.
 #![tactic(auto)]
 
+ghost use Rattle.std.specs.Prelude.{◌≡◌, ◌+◌, ◌++◌, cond, ltb, length, take, drop};
+ghost use Rattle.numbers.specs.Numbers.{over};
+
 // Bytes from a place of an image on, where they have room there.
-pub fn install(image: &mut [u8], at: usize, code: &[u8]) {
-    if let Some(rest) = image.get_mut(at..)
-        && let Some(part) = rest.get_mut(..code.len())
-    {
-        part.copy_from_slice(code);
+// By get_mut the proof does not close, as in bus: what stands there where it gives None is not known.
+pub fn install(image: &mut [u8], at: usize, code: &[u8])
+    ensures { image.new ≡ cond (ltb (length image.old) (at + length code.now)) image.old (take at image.old ++ over code.now (drop at image.old)) }
+{
+    if at <= image.len() && code.len() <= image.len() - at {
+        numbers::copy(code, &mut image[at..]);
     }
 }
 
