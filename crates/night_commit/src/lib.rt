@@ -261,7 +261,10 @@ impl<'a> Contents<'a> {
 }
 
 // A file is made in STATE.night.
-fn make_file(rt: &impl Files, i: u8, places: Places, contents: Contents) -> bool {
+fn make_file(rt: &impl Files, op: Op, places: Places, contents: Contents) -> bool {
+    let Op::Make(i) = op else {
+        return false;
+    };
     match contents.bytes_of(places.names, i) {
         Some(bytes) => make(rt, i, places, bytes),
         None => false,
@@ -274,8 +277,8 @@ pub fn finish(rt: &impl Files, ran: bool, places: Places, contents: Contents) ->
 {
     let files = night_names::files(places.names);
     let mut op = night_steps::next(files, Op::Run, ran, true);
-    while let Op::Make(i) = op {
-        let ok = make_file(rt, i, places, contents);
+    while night_steps::is_make(op) {
+        let ok = make_file(rt, op, places, contents);
         op = night_steps::next(files, op, ok, true);
     }
     carry(rt, op, true, places)

@@ -2,8 +2,8 @@
 use Rattle.night_steps.proofs.Ahead.{to_make}
 use Rattle.night_commit.proofs.finish.Given as goal
 
-abbrev pub invariant-loop-op : goal.invariant-loop-op
-invariant-loop-op g l = Unit
+abbrev pub invariant-loop-places : goal.invariant-loop-places
+invariant-loop-places g l = Unit
 
-abbrev pub decreases-loop-op : goal.decreases-loop-op
-decreases-loop-op g l = to_make l.files l.op
+abbrev pub decreases-loop-places : goal.decreases-loop-places
+decreases-loop-places g l = to_make l.files l.op
