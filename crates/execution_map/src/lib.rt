@@ -4,7 +4,7 @@
 ghost use Rattle.std.specs.Prelude.{◌≡◌, true, ◌+◌, ◌<◌, ◌^◌, length};
 ghost use Rattle.execution_map.specs.Map.{map_of, has_run, marked, begun_at, ones_of, is_sound, told_search, unrun_answer};
 
-// The map has not its 8,192 bytes.
+// There is no map: it has not its 8,192 bytes, or it stands in a file whose total is not its own.
 #[derive(Clone, Copy)]
 pub struct WrongMap;
 
