@@ -147,8 +147,8 @@ fn branch_name(operation: Branch) -> [u8; 4]
     }
 }
 
-// The mnemonic, its fourth character a blank where it has three letters.
 #[tactic(auto, unfolding(crate::specs::Mnemonics::mnemonic_of))]
+// The mnemonic, its fourth character a blank where it has three letters.
 pub fn mnemonic(operation: Operation, place: Place) -> [u8; 4]
     ensures { result ≡ mnemonic_of operation place }
 {
