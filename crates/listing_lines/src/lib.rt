@@ -168,7 +168,7 @@ fn operand(address: u16, place: Place, second: u8, third: u8) -> u16
     }
 }
 
-// The line of what is listed at an address: an instruction, or a data byte where `shown` is None.
+// The line of what is listed at an address: an instruction, or a data byte where `shown` is undefined.
 #[tactic(auto, unfolding(crate::specs::Lines::item_line))]
 pub fn item_line(address: u16, shown: Option<Instruction>, first: u8, second: u8, third: u8) -> Text
     requires { (1 ≤ bytes_of shown) × (bytes_of shown ≤ 3) }
