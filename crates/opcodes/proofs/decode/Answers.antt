@@ -2,10 +2,9 @@
 -- Given `row_at`, the check finds seven of the sixteen alone (tried): so that they stand together, each is here.
 use Rattle.std.proofs.Common.{ℕ, get_or, refl, arith, None}
 use Rattle.opcodes.proofs.Places.{row_at}
-use Rattle.opcodes.specs.Opcodes.{decode_of, branch_entry, row0, row1, row3}
-use Rattle.opcodes.specs.Parts.{tests2, one_byte_of, modified_of, two_bytes_of, immediate_of}
+use Rattle.opcodes.specs.Opcodes.{decode_of, row0, row1, row2, row3}
+use Rattle.opcodes.specs.Parts.{one_byte_of, modified_of, two_bytes_of, immediate_of}
 use Rattle.opcodes.specs.declared.Accumulator.TheVariants.{A, B}
-use Rattle.opcodes.specs.declared.Branch.TheVariants.{Bra}
 use Rattle.opcodes.specs.declared.Place.TheVariants.{AccumulatorA, AccumulatorB, Direct, Indexed, Extended}
 use Rattle.opcodes.proofs.decode.Goals as goal
 
@@ -21,7 +20,7 @@ returns-in-16-to-31 c = row_at (λ (k : ℕ). get_or row1 k None) 0x10 c.args.op
 
 pub returns-in-32-to-47 : goal.returns-in-32-to-47
 unfolding decode_of
-returns-in-32-to-47 c = row_at (λ (k : ℕ). branch_entry (get_or tests2 k Bra)) 0x20 c.args.opcode
+returns-in-32-to-47 c = row_at (λ (k : ℕ). get_or row2 k None) 0x20 c.args.opcode
     c.row_2.ensures refl (omega arith) (omega arith)
 
 pub returns-in-48-to-63 : goal.returns-in-48-to-63
