@@ -6,7 +6,6 @@ ghost use Rattle.std.specs.Prelude.{◌≡◌, ◌+◌, ◌++◌, cond, ltb, len
 ghost use Rattle.numbers.specs.Numbers.{over};
 
 // Bytes from a place of an image on, where they have room there.
-// By get_mut the proof does not close, as in bus: what stands there where it gives None is not known.
 pub fn install(image: &mut [u8], at: usize, code: &[u8])
     ensures { image.new ≡ cond (ltb (length image.old) (at + length code.now)) image.old (take at image.old ++ over code.now (drop at image.old)) }
 {
