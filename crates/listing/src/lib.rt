@@ -70,7 +70,9 @@ pub fn bytes_of(shown: Option<Instruction>) -> u8
 // The line of what is listed at an address.
 pub fn line_at(image: &[u8], address: usize, shown: Option<Instruction>) -> Text
     requires { (address < 65536) × (1 ≤ bytes_of shown) × (bytes_of shown ≤ 3) }
-    ensures { let b = image_byte image.now in result.items ≡ item_line address shown (b address) (b (address + 1)) (b (address + 2)) }
+    ensures { let b = image_byte image.now in
+        let line = item_line address shown (b address) (b (address + 1)) (b (address + 2)) in
+        (take result.length result.bytes ≡ line) × (length line ≡ result.length) × (result.length ≤ 28) }
 {
     listing_lines::item_line(
         address as u16,
@@ -114,8 +116,9 @@ fn write(image: &[u8], first: usize, last: usize, buffer: &mut [u8])
     while address <= last {
         let shown = shown_at(image, last, address);
         let text = line_at(image, address, shown);
-        put(text.as_slice(), at, buffer);
-        at += text.len();
+        let n = text.length as usize;
+        put(&text.bytes[..n], at, buffer);
+        at += n;
         address += bytes_of(shown) as usize;
     }
 }

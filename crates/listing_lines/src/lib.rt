@@ -1,12 +1,11 @@
 // One line of a listing, as it is published: specs/Lines.antt has its columns.
 #![tactic(auto)]
 
-ghost use Rattle.std.specs.Prelude.{◌≡◌, [], ◌∷◌, ◌≤◌, take};
+ghost use Rattle.std.specs.Prelude.{◌≡◌, [], ◌∷◌, ◌≤◌, length, take};
 ghost use Rattle.characters.specs.Characters.{hexadecimal_of};
 ghost use Rattle.listing_lines.specs.Lines.{form_of, published_line, column_of, operand_of, bytes_of, item_line};
 ghost use Rattle.listing_lines.specs.Cells.{head_of, ending_of, bare_fourth, fourth_of, size_of, item_size, cells_of};
 
-use arrayvec::ArrayVec;
 use bits::plus;
 use opcodes::{Instruction, Place};
 
@@ -21,8 +20,12 @@ pub enum Form {
     Indexed,
 }
 
-// A line, its end included.
-pub type Text = ArrayVec<u8, 28>;
+// The first `length` characters are a line, its end included. It is promised to be `Copy`, which the kit's `ArrayVec` is not.
+#[derive(Clone, Copy)]
+pub struct Text {
+    pub bytes: [u8; 28],
+    pub length: u8,
+}
 
 fn byte_digits(v: u8) -> [u8; 2]
     ensures { result ≡ hexadecimal_of 2 v }
@@ -112,19 +115,22 @@ fn joined(head: [u8; 16], name: [u8; 4], fourth: u8, ending: [u8; 8]) -> [u8; 28
 }
 
 // The line of an address, with these characters in columns 7 to 14.
-#[tactic(auto, using(crate::proofs::Laws::cells_line))]
+#[tactic(auto, using(crate::proofs::Laws::cells_line, crate::proofs::Laws::line_size, crate::proofs::Laws::size_most))]
 pub fn line(address: u16, column: [u8; 8], name: [u8; 4], form: Form, v: u16) -> Text
-    ensures { result.items ≡ published_line address column name form v }
+    ensures { (take result.length result.bytes ≡ published_line address column name form v)
+        × (length (published_line address column name form v) ≡ result.length) × (result.length ≤ 28) }
 {
     let last = name[3];
-    let mut text = ArrayVec::from(joined(
+    let bytes = joined(
         head(address, column),
         name,
         fourth(last, form),
         ending(form, v),
-    ));
-    text.truncate(size(last, form) as usize);
-    text
+    );
+    Text {
+        bytes,
+        length: size(last, form),
+    }
 }
 
 // Columns 7 to 14: the first `length` of three bytes.
@@ -172,7 +178,8 @@ fn operand(address: u16, place: Place, second: u8, third: u8) -> u16
 #[tactic(auto, unfolding(crate::specs::Lines::item_line))]
 pub fn item_line(address: u16, shown: Option<Instruction>, first: u8, second: u8, third: u8) -> Text
     requires { (1 ≤ bytes_of shown) × (bytes_of shown ≤ 3) }
-    ensures { result.items ≡ item_line address shown first second third }
+    ensures { (take result.length result.bytes ≡ item_line address shown first second third)
+        × (length (item_line address shown first second third) ≡ result.length) × (result.length ≤ 28) }
 {
     match shown {
         None => {

@@ -68,8 +68,9 @@ fn put_line(
     buffer[at] = mark(map, address, listing::bytes_of(shown));
     buffer[at + 1] = b' ';
     let text = listing::line_at(image, address, shown);
-    listing::put(text.as_slice(), at + 2, buffer);
-    text.len() + 2
+    let n = text.length as usize;
+    listing::put(&text.bytes[..n], at + 2, buffer);
+    n + 2
 }
 
 // The listing with its column is put at the buffer's front; the answer is how many characters it has. A `while`: the step is the line's own length.

@@ -152,8 +152,9 @@ pub fn read_line(keys: &[u64], text: &[u8]) -> Result<Line, Unread>
     let form = form_in(text);
     let v = operand_in(form, text);
     let line = listing_lines::line(address, column, name, form, v);
-    if !begins_with(text, line.as_slice()) || !is_unbroken(column) {
+    let size = line.length;
+    if !begins_with(text, &line.bytes[..size as usize]) || !is_unbroken(column) {
         return Err(Unread::Bad);
     }
-    listing_codes::coded(keys, address, name, form, v, line.len() as u8)
+    listing_codes::coded(keys, address, name, form, v, size)
 }
