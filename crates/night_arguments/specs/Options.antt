@@ -1,6 +1,7 @@
 -- What the arguments of a call are: options, each with its value, perhaps `--`, then the names.
-use Rattle.std.specs.Prelude.{ℕ, ◌+◌, not, cond, List, [], ◌∷◌, eqb, ltb, length, take, bytes_eq, Option, Some, None}
+use Rattle.std.specs.Prelude.{ℕ, ◌+◌, not, cond, List, [], ◌∷◌, eqb, ltb, length, take, Option, Some, None}
 use Rattle.printing.specs.Printing.{ascii}
+use Rattle.night_arguments.specs.Arguments.{same_of}
 use Rattle.night_arguments.specs.declared.Kind.{Kind}
 use Rattle.night_arguments.specs.declared.Kind.TheVariants.{Name, End, Unknown, Area, Log}
 use Rattle.night_arguments.specs.declared.Options.{Options}
@@ -10,10 +11,10 @@ use Rattle.night_arguments.specs.declared.Call.{Call}
 -- that name a file.
 unfoldable pub kind_of : List ℕ → Kind
 kind_of text =
-    cond (not (bytes_eq (ascii "--") (take 2 text))) Name
-    (cond (bytes_eq text (ascii "--")) End
-    (cond (bytes_eq text (ascii "--area")) Area
-    (cond (bytes_eq text (ascii "--log")) Log
+    cond (not (same_of (ascii "--") (take 2 text))) Name
+    (cond (same_of text (ascii "--")) End
+    (cond (same_of text (ascii "--area")) Area
+    (cond (same_of text (ascii "--log")) Log
     Unknown)))
 
 abbrev pub where_none : Option ℕ → Options → Option Options

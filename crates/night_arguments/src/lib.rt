@@ -4,7 +4,7 @@
 ghost use Rattle.std.specs.Prelude.{◌≤◌, ◌≡◌, length, take};
 ghost use Rattle.std.specs.Fn.{FnOnceReturnsAt};
 ghost use Rattle.io.specs.Counts.{IsPrefixLen};
-ghost use Rattle.night_arguments.specs.Arguments.{number_of, joined_of};
+ghost use Rattle.night_arguments.specs.Arguments.{number_of, same_of, joined_of};
 ghost use Rattle.night_arguments.specs.Options.{kind_of, given, names_from, call_of};
 
 // The number below 2^32 that a text is, in decimal.
@@ -13,6 +13,13 @@ pub fn read_number(text: &[u8]) -> Option<u32>
     ensures { result ≡ number_of text.now }
 {
     digits::number(10, text)
+}
+
+// Whether two texts are the same.
+pub fn same(a: &[u8], b: &[u8]) -> bool
+    ensures { result ≡ same_of a.now b.now }
+{
+    a == b
 }
 
 // What an argument is that is no option's value: a name, `--`, an option that there is not, or an option.
@@ -32,13 +39,13 @@ pub fn kind_of(text: &[u8]) -> Kind
     if !text.starts_with(b"--") {
         return Kind::Name;
     }
-    if text == b"--".as_slice() {
+    if same(text, b"--") {
         return Kind::End;
     }
-    if text == b"--area".as_slice() {
+    if same(text, b"--area") {
         return Kind::Area;
     }
-    if text == b"--log".as_slice() {
+    if same(text, b"--log") {
         return Kind::Log;
     }
     Kind::Unknown
