@@ -33,6 +33,7 @@ enum Refusal {
     Load(LoadRefusal),
     Arguments,
     Files(night_steps::Refusal),
+    Ended(u8), // the number of one of night_steps' ends
 }
 
 impl From<PowerRefusal> for Refusal {
@@ -59,6 +60,7 @@ impl Refusal {
             Refusal::Load(LoadRefusal::WrongMachine) => 2,
             Refusal::Arguments => 32,
             Refusal::Files(refusal) => refusal.number(),
+            Refusal::Ended(number) => number,
         }
     }
 }
@@ -150,7 +152,7 @@ fn read_machine(rt: &impl Files, state: &[u8], image: &[u8], r: u32) -> Result<M
 // What an end of a call refuses, where it is no night's that was placed.
 fn refusal_of(end: Op) -> Refusal {
     match end {
-        Op::Refused(refusal) | Op::Stopped(refusal) => Refusal::Files(refusal),
+        Op::Refused(number) | Op::Stopped(number) => Refusal::Ended(number),
         _ => Refusal::Files(night_steps::Refusal::Failed),
     }
 }

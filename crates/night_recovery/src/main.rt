@@ -5,7 +5,7 @@
 #![tactic(auto)]
 
 use night_commit::{Contents, Places};
-use night_steps::{Op, Refusal};
+use night_steps::Op;
 use printing::Line;
 use std::fs::Files;
 use std::io::Result;
@@ -43,8 +43,7 @@ fn show_folder(rt: &(impl Files + Print), case: &[u8], name: &[u8], word: &[u8])
     Line::empty().text(word).print(rt);
 }
 
-fn show_refusal(rt: &impl Print, word: &[u8], refusal: Refusal) {
-    let number = refusal.number();
+fn show_refusal(rt: &impl Print, word: &[u8], number: u8) {
     Line::empty().text(word).decimal(number as u64).print(rt);
 }
 

@@ -8,8 +8,6 @@ use native.Mathlib.Numerals.{add-one}
 use native.Mathlib.Omega.{arith}
 use lib.Dec.{T, ltb}
 use borrow.Author.Tests.{lt-ltb, le-ltb}
-use Rattle.night_steps.specs.declared.Refusal.{Refusal}
-use Rattle.night_steps.specs.declared.Refusal.TheVariants.{Unread, Failed, Taken}
 use Rattle.night_steps.specs.declared.Op.{Op}
 use Rattle.night_steps.specs.declared.Op.TheVariants.{Find, ReadNames, Take, Blocked, FindAgain, Settle, GiveBack, Run, Make, SyncNight, Unlink, RemoveNight}
 use Rattle.night_steps.specs.declared.Op.TheVariants.{Commit, SyncCommit, Put, SyncPlaces, RemoveDone, SyncLast, Placed, Refused, Stopped}
@@ -135,20 +133,20 @@ recovery_lawful n k c b answers g x y d p fs z =
     (done_step (Held n k false ReadNames) (allowed (call at none) w) (forced (call at none) w) w (asks_call fs)
     (b, tt, all_saved fs, changes_sized n (does call) none fs z))
 
--- An operation fails. Before the commit: whatever the system answers to the clean-up, the call is refused (`Failed`). From the commit on it stops.
+-- An operation fails. Before the commit: whatever the system answers to the clean-up, the call is refused with 34. From the commit on it stops.
 module _ (n : ℕ) (own : Bool) where
-  refused : (j : Refusal) (k : ℕ) (answers : ℕ → Bool) → end n k answers own (Refused j) ≡ Refused j
+  refused : (j k : ℕ) (answers : ℕ → Bool) → end n k answers own (Refused j) ≡ Refused j
   refused j zero answers = refl
   refused j (suc k) answers = refused j k (λ i. answers (suc i))
 
-  stopped : (j : Refusal) (k : ℕ) (answers : ℕ → Bool) → end n k answers own (Stopped j) ≡ Stopped j
+  stopped : (j k : ℕ) (answers : ℕ → Bool) → end n k answers own (Stopped j) ≡ Stopped j
   stopped j zero answers = refl
   stopped j (suc k) answers = stopped j k (λ i. answers (suc i))
 
-  unlinks_on : (j i k : ℕ) (answers : ℕ → Bool) → suc i + j ≡ n → end n (more (suc j) (suc k)) answers own (Unlink i) ≡ Refused Failed
+  unlinks_on : (j i k : ℕ) (answers : ℕ → Bool) → suc i + j ≡ n → end n (more (suc j) (suc k)) answers own (Unlink i) ≡ Refused 34
   unlinks_on zero i k answers e =
       ap (λ (b : Bool). end n (suc k) (λ a. answers (suc a)) own (choice b (Unlink (i + 1)) RemoveNight)) (le-ltb (i + 1) n (omega arith))
-      ∙ refused Failed k (λ a. answers (suc (suc a)))
+      ∙ refused 34 k (λ a. answers (suc (suc a)))
   unlinks_on (suc j) i k answers e =
       ap (λ (b : Bool). end n (more (suc j) (suc k)) (λ a. answers (suc a)) own (choice b (Unlink (i + 1)) RemoveNight)) (lt-ltb (i + 1) n (omega arith))
       ∙ unlinks_on j (i + 1) k (λ a. answers (suc a)) (omega arith)
@@ -157,17 +155,17 @@ abbrev Ends : ℕ → ℕ → (ℕ → Bool) → Bool → Op → Op → Type 0
 Ends n k answers own failed last = end n k answers own (next_op n failed false own) ≡ last
 
 pub failed_before : (m k : ℕ) (answers : ℕ → Bool) (own : Bool) → let n = suc m in
-    Ends n (more n (suc k)) answers own Run (Refused Failed) × ((i : ℕ) → Ends n (more n (suc k)) answers own (Make i) (Refused Failed))
-    × Ends n (more n (suc k)) answers own SyncNight (Refused Failed)
+    Ends n (more n (suc k)) answers own Run (Refused 34) × ((i : ℕ) → Ends n (more n (suc k)) answers own (Make i) (Refused 34))
+    × Ends n (more n (suc k)) answers own SyncNight (Refused 34)
 failed_before m k answers own =
     let n : ℕ = suc m in
-    let u : end n (more n (suc k)) answers own (Unlink 0) ≡ Refused Failed = unlinks_on n own m 0 k answers (omega arith) in
-    (refused n own Failed (more m (suc k)) (λ a. answers (suc a)), (λ i. u), u)
+    let u : end n (more n (suc k)) answers own (Unlink 0) ≡ Refused 34 = unlinks_on n own m 0 k answers (omega arith) in
+    (refused n own 34 (more m (suc k)) (λ a. answers (suc a)), (λ i. u), u)
 
-pub failed_from : (n k : ℕ) (answers : ℕ → Bool) (own : Bool) → Ends n k answers own Commit (Stopped Failed) × Ends n k answers own SyncCommit (Stopped Failed)
-    × ((i : ℕ) → Ends n k answers own (Put i) (Stopped Failed)) × Ends n k answers own SyncPlaces (Stopped Failed) × Ends n k answers own RemoveDone (Stopped Failed)
-    × Ends n k answers own SyncLast (Stopped Failed)
-failed_from n k answers own = let s = stopped n own Failed k answers in (s, s, (λ i. s), s, s, s)
+pub failed_from : (n k : ℕ) (answers : ℕ → Bool) (own : Bool) → Ends n k answers own Commit (Stopped 34) × Ends n k answers own SyncCommit (Stopped 34)
+    × ((i : ℕ) → Ends n k answers own (Put i) (Stopped 34)) × Ends n k answers own SyncPlaces (Stopped 34) × Ends n k answers own RemoveDone (Stopped 34)
+    × Ends n k answers own SyncLast (Stopped 34)
+failed_from n k answers own = let s = stopped n own 34 k answers in (s, s, (λ i. s), s, s, s)
 
 -- The same with what happens beside: the device gets anything unasked, and a second call works at what it found (night_folders' Beside). Find is the one
 -- operation that goes by what it finds; it is the first, and none leads back to it.
@@ -200,23 +198,23 @@ chosen false x y p q = q
 
 goes_on_lem : (n : ℕ) (op : Op) (ok own : Bool) → T (under_way (next_op n op ok own))
 goes_on_lem n Find ok own = chosen ok Take ReadNames tt tt
-goes_on_lem n ReadNames ok own = chosen ok SyncCommit (Stopped Unread) tt tt
+goes_on_lem n ReadNames ok own = chosen ok SyncCommit (Stopped 33) tt tt
 goes_on_lem n Take ok own = chosen ok FindAgain Blocked tt tt
-goes_on_lem n Blocked ok own = chosen ok (Refused Taken) (Refused Failed) tt tt
-goes_on_lem n FindAgain ok own = chosen ok Settle (GiveBack Taken) tt tt
-goes_on_lem n Settle ok own = chosen ok Run (GiveBack Failed) tt tt
+goes_on_lem n Blocked ok own = chosen ok (Refused 35) (Refused 34) tt tt
+goes_on_lem n FindAgain ok own = chosen ok Settle (GiveBack 35) tt tt
+goes_on_lem n Settle ok own = chosen ok Run (GiveBack 34) tt tt
 goes_on_lem n (GiveBack k) ok own = tt
 goes_on_lem n Run ok own = chosen ok (Make 0) RemoveNight tt tt
 goes_on_lem n (Make i) ok own = chosen ok (after_make n i) (Unlink 0) (chosen (ltb (i + 1) n) (Make (i + 1)) SyncNight tt tt) tt
 goes_on_lem n SyncNight ok own = chosen ok Commit (Unlink 0) tt tt
 goes_on_lem n (Unlink i) ok own = chosen (ltb (i + 1) n) (Unlink (i + 1)) RemoveNight tt tt
 goes_on_lem n RemoveNight ok own = tt
-goes_on_lem n Commit ok own = chosen ok SyncCommit (Stopped Failed) tt tt
-goes_on_lem n SyncCommit ok own = chosen ok (Put 0) (Stopped Failed) tt tt
-goes_on_lem n (Put i) ok own = chosen ok (after_put n i) (Stopped Failed) (chosen (ltb (i + 1) n) (Put (i + 1)) SyncPlaces tt tt) tt
-goes_on_lem n SyncPlaces ok own = chosen ok RemoveDone (Stopped Failed) tt tt
-goes_on_lem n RemoveDone ok own = chosen ok SyncLast (Stopped Failed) tt tt
-goes_on_lem n SyncLast ok own = chosen ok (choice own Placed Take) (Stopped Failed) (chosen own Placed Take tt tt) tt
+goes_on_lem n Commit ok own = chosen ok SyncCommit (Stopped 34) tt tt
+goes_on_lem n SyncCommit ok own = chosen ok (Put 0) (Stopped 34) tt tt
+goes_on_lem n (Put i) ok own = chosen ok (after_put n i) (Stopped 34) (chosen (ltb (i + 1) n) (Put (i + 1)) SyncPlaces tt tt) tt
+goes_on_lem n SyncPlaces ok own = chosen ok RemoveDone (Stopped 34) tt tt
+goes_on_lem n RemoveDone ok own = chosen ok SyncLast (Stopped 34) tt tt
+goes_on_lem n SyncLast ok own = chosen ok (choice own Placed Take) (Stopped 34) (chosen own Placed Take tt tt) tt
 goes_on_lem n Placed ok own = tt
 goes_on_lem n (Refused k) ok own = tt
 goes_on_lem n (Stopped k) ok own = tt

@@ -36,7 +36,7 @@ pub enum Op {
     Blocked, // (b) well: STATE.night is taken; not: it cannot be made
     FindAgain, // (c) as Find
     Settle, // (c) bring STATE's folder to the device
-    GiveBack(Refusal), // remove STATE.night, in which nothing was made; refused so
+    GiveBack(u8), // remove STATE.night, in which nothing was made; refused with this number
     Run, // read the files and run
     Make(u8), // (d) make the file in STATE.night, write it, bring it to the device, close it
     SyncNight, // (d) bring STATE.night to the device
@@ -49,8 +49,8 @@ pub enum Op {
     RemoveDone, // (h) remove STATE.done; that it is gone is well
     SyncLast, // (h) bring STATE's folder to the device
     Placed, // the end: all new
-    Refused(Refusal), // the end: nothing of this call's own night is left, but for a clean-up that failed
-    Stopped(Refusal), // the end for now: the next call goes on from STATE.done where it stands; or the commit failed
+    Refused(u8), // the end: nothing of this call's own night is left, but for a clean-up that failed
+    Stopped(u8), // the end for now: the next call goes on from STATE.done where it stands; or the commit failed
 }
 
 fn choose(ok: bool, yes: Op, no: Op) -> Op
@@ -76,15 +76,15 @@ pub fn next(files: u8, op: Op, ok: bool, own: bool) -> Op
 {
     match op {
         Op::Find => choose(ok, Op::Take, Op::ReadNames),
-        Op::ReadNames => choose(ok, Op::SyncCommit, Op::Stopped(Refusal::Unread)),
+        Op::ReadNames => choose(ok, Op::SyncCommit, Op::Stopped(Refusal::Unread.number())),
         Op::Take => choose(ok, Op::FindAgain, Op::Blocked),
         Op::Blocked => choose(
             ok,
-            Op::Refused(Refusal::Taken),
-            Op::Refused(Refusal::Failed),
+            Op::Refused(Refusal::Taken.number()),
+            Op::Refused(Refusal::Failed.number()),
         ),
-        Op::FindAgain => choose(ok, Op::Settle, Op::GiveBack(Refusal::Taken)),
-        Op::Settle => choose(ok, Op::Run, Op::GiveBack(Refusal::Failed)),
+        Op::FindAgain => choose(ok, Op::Settle, Op::GiveBack(Refusal::Taken.number())),
+        Op::Settle => choose(ok, Op::Run, Op::GiveBack(Refusal::Failed.number())),
         Op::GiveBack(k) => Op::Refused(k),
         Op::Run => choose(ok, Op::Make(0), Op::RemoveNight),
         Op::Make(i) => choose(
@@ -94,20 +94,20 @@ pub fn next(files: u8, op: Op, ok: bool, own: bool) -> Op
         ),
         Op::SyncNight => choose(ok, Op::Commit, Op::Unlink(0)),
         Op::Unlink(i) => following(files, i).map_or(Op::RemoveNight, Op::Unlink),
-        Op::RemoveNight => Op::Refused(Refusal::Failed),
-        Op::Commit => choose(ok, Op::SyncCommit, Op::Stopped(Refusal::Failed)),
-        Op::SyncCommit => choose(ok, Op::Put(0), Op::Stopped(Refusal::Failed)),
+        Op::RemoveNight => Op::Refused(Refusal::Failed.number()),
+        Op::Commit => choose(ok, Op::SyncCommit, Op::Stopped(Refusal::Failed.number())),
+        Op::SyncCommit => choose(ok, Op::Put(0), Op::Stopped(Refusal::Failed.number())),
         Op::Put(i) => choose(
             ok,
             following(files, i).map_or(Op::SyncPlaces, Op::Put),
-            Op::Stopped(Refusal::Failed),
+            Op::Stopped(Refusal::Failed.number()),
         ),
-        Op::SyncPlaces => choose(ok, Op::RemoveDone, Op::Stopped(Refusal::Failed)),
-        Op::RemoveDone => choose(ok, Op::SyncLast, Op::Stopped(Refusal::Failed)),
+        Op::SyncPlaces => choose(ok, Op::RemoveDone, Op::Stopped(Refusal::Failed.number())),
+        Op::RemoveDone => choose(ok, Op::SyncLast, Op::Stopped(Refusal::Failed.number())),
         Op::SyncLast => choose(
             ok,
             choose(own, Op::Placed, Op::Take),
-            Op::Stopped(Refusal::Failed),
+            Op::Stopped(Refusal::Failed.number()),
         ),
         Op::Placed | Op::Refused(_) | Op::Stopped(_) => op,
     }
