@@ -9,7 +9,6 @@ use boundary::Watch;
 use counts::Cycles;
 use host::Rest;
 use machine::{Machine, PowerRefusal};
-use night_arguments::{Call, Kind, Options};
 use night_commit::{Contents, Places};
 use night_slices::Night;
 use night_steps::Op;
@@ -66,6 +65,13 @@ impl Refusal {
 }
 
 const UNREAD: Refusal = Refusal::Files(night_steps::Refusal::Unread);
+
+// The options of a call: which of its arguments is the value of each that is given.
+#[derive(Clone, Copy)]
+struct Options {
+    area: Option<u8>,
+    log: Option<u8>,
+}
 
 // The two numbers of a call, and its options.
 #[derive(Clone, Copy)]
@@ -383,13 +389,13 @@ fn number_at(rt: &impl Env, i: usize) -> Result<u32, Refusal> {
     host::argument_as(rt, i, night_arguments::read_number).ok_or(Refusal::Arguments)
 }
 
-// The call that the arguments are.
-fn call_of(rt: &(impl Files + Env + Print), arguments: Call) -> Result<(), Refusal> {
-    let at = arguments.names as usize;
+// The call whose six names begin at this argument.
+fn call_of(rt: &(impl Files + Env + Print), first: u8, options: Options) -> Result<(), Refusal> {
+    let at = first as usize;
     let terms = Terms {
         n: number_at(rt, at + 2)?,
         r: number_at(rt, at + 3)?,
-        options: arguments.options,
+        options,
     };
     let mut image = io::buffer();
     let a = host::argument(rt, at, &mut image);
@@ -409,15 +415,15 @@ fn call_of(rt: &(impl Files + Env + Print), arguments: Call) -> Result<(), Refus
     )
 }
 
-// What an argument is.
-fn kind_at(rt: &impl Env, i: usize) -> Kind {
+// What an argument is, as `read_call` takes it.
+fn kind_at(rt: &impl Env, i: usize) -> u8 {
     let mut text = io::buffer();
     let n = host::argument(rt, i, &mut text);
-    night_arguments::kind_of(&text[..n])
+    night_arguments::kind_of(&text[..n]).number()
 }
 
 // What the arguments are, the program's own name left out, as far as the buffer goes.
-fn read_kinds(rt: &impl Env, kinds: &mut [Kind]) -> usize
+fn read_kinds(rt: &impl Env, kinds: &mut [u8]) -> usize
     ensures { result ≤ length kinds.new }
 {
     for i in 0..kinds.len() {
@@ -429,13 +435,24 @@ fn read_kinds(rt: &impl Env, kinds: &mut [Kind]) -> usize
     kinds.len()
 }
 
+// The argument that is an option's value, where it is given.
+fn given(value: u8) -> Option<u8> {
+    if value == 0 { None } else { Some(value) }
+}
+
 fn answer(rt: &(impl Files + Env + Print)) -> Result<(), Refusal> {
-    let mut kinds = [Kind::Name; 33];
+    let mut kinds = [0; 33];
     let n = read_kinds(rt, &mut kinds);
-    match night_arguments::read_call(&kinds[..n]) {
-        Some(arguments) => call_of(rt, arguments),
-        None => Err(Refusal::Arguments),
+    let mut values = [0; 2];
+    let first = night_arguments::read_call(&kinds[..n], &mut values);
+    if first == 0 {
+        return Err(Refusal::Arguments);
     }
+    let options = Options {
+        area: given(values[0]),
+        log: given(values[1]),
+    };
+    call_of(rt, first, options)
 }
 
 fn main(rt: HostRuntime) {

@@ -1,11 +1,9 @@
 -- What the arguments of a call are: options, each with its value, perhaps `--`, then the names.
-use Rattle.std.specs.Prelude.{ℕ, ◌+◌, not, cond, List, [], ◌∷◌, eqb, ltb, length, take, Option, Some, None}
+use Rattle.std.specs.Prelude.{ℕ, ◌+◌, ◌-◌, Bool, not, cond, ◌&&◌, List, [], ◌∷◌, eqb, ltb, leb, length, get_or, set, take}
 use Rattle.printing.specs.Printing.{ascii}
 use Rattle.night_arguments.specs.Arguments.{same_of}
 use Rattle.night_arguments.specs.declared.Kind.{Kind}
 use Rattle.night_arguments.specs.declared.Kind.TheVariants.{Name, End, Unknown, Area, Log}
-use Rattle.night_arguments.specs.declared.Options.{Options}
-use Rattle.night_arguments.specs.declared.Call.{Call}
 
 -- What an argument is, by its text, where it is no option's value: a name, the end of the options, an option that there is not, or an option, of those
 -- that name a file.
@@ -17,39 +15,41 @@ kind_of text =
     (cond (same_of text (ascii "--log")) Log
     Unknown)))
 
-abbrev pub where_none : Option ℕ → Options → Option Options
-where_none None o = Some o
-where_none (Some v) o = None
+-- The same by numbers: 0 a name, 1 the end of the options, 2 an option that there is not, and from 3 on the options, a row each, those that name a
+-- file in the order of the night's files.
+abbrev pub kind_number : Kind → ℕ
+kind_number Name = 0
+kind_number End = 1
+kind_number Unknown = 2
+kind_number Area = 3
+kind_number Log = 4
 
--- "each at most once": the options with the one of this kind, where it is there, and its value is not given yet
-abbrev pub given : Kind → ℕ → Options → Option Options
-given Name value o = None
-given End value o = None
-given Unknown value o = None
-given Area value o = where_none o.area (record o { area = Some value })
-given Log value o = where_none o.log (record o { log = Some value })
+-- "each at most once": the option of this kind is there, and its value is not given yet
+abbrev pub is_free : ℕ → List ℕ → Bool
+is_free kind values = leb 3 kind && (ltb (kind - 3) (length values) && eqb (get_or values (kind - 3) 0) 0)
 
--- six names follow the first `at` of so many arguments, counted from 1, and nothing more
-abbrev pub names_from : ℕ → ℕ → Options → Option Call
-names_from count at o = cond (eqb (at + 6) count) (Some (record { names = at + 1; options = o })) None
+-- The arguments are counted from 1. `names`: which of them is the first of the six names; 0 where the arguments are none of a call. `values`: for
+-- each option, in the kinds' order, which of them is its value; 0 where it is not given.
+pub record Call : Type 0 where
+  pub names : ℕ
+  pub values : List ℕ
 
-abbrev pub and_then : Option Options → (Options → Option Call) → Option Call
-and_then None f = None
-and_then (Some o) f = f o
+abbrev pub told : ℕ → List ℕ → Call
+told names values = record { names = names; values = values }
 
--- from the kinds of the arguments that follow the first `at`; nothing where the arguments are none of a call
-unfoldable pub call_from : ℕ → ℕ → Options → List Kind → Option Call
-call_from count at o [] = None
-call_from count at o (kind ∷ []) = None
-call_from count at o (Name ∷ value ∷ kinds) = names_from count at o
-call_from count at o (End ∷ value ∷ kinds) = names_from count (at + 1) o
-call_from count at o (Unknown ∷ value ∷ kinds) = None
-call_from count at o (Area ∷ value ∷ kinds) = and_then (given Area (at + 2) o) (λ (q : Options). call_from count (at + 2) q kinds)
-call_from count at o (Log ∷ value ∷ kinds) = and_then (given Log (at + 2) o) (λ (q : Options). call_from count (at + 2) q kinds)
+-- six names follow the first `at` of so many arguments, and nothing more
+abbrev pub names_from : ℕ → ℕ → ℕ
+names_from count at = cond (eqb (at + 6) count) (at + 1) 0
 
-abbrev pub no_options : Options
-no_options = record { area = None; log = None }
+-- from the kinds of the arguments that follow the first `at`
+unfoldable pub call_from : ℕ → ℕ → List ℕ → List ℕ → Call
+call_from count at values [] = told 0 values
+call_from count at values (kind ∷ []) = told 0 values
+call_from count at values (kind ∷ value ∷ kinds) =
+    cond (eqb kind 0) (told (names_from count at) values)
+    (cond (eqb kind 1) (told (names_from count (at + 1)) values)
+    (cond (is_free kind values) (call_from count (at + 2) (set values (kind - 3) (at + 2)) kinds) (told 0 values)))
 
 -- no call has more than 32 arguments
-unfoldable pub call_of : List Kind → Option Call
-call_of kinds = cond (ltb 32 (length kinds)) None (call_from (length kinds) 0 no_options kinds)
+unfoldable pub call_of : List ℕ → List ℕ → Call
+call_of kinds values = cond (ltb 32 (length kinds)) (told 0 values) (call_from (length kinds) 0 values kinds)

@@ -1,11 +1,11 @@
 // What a program makes of its arguments: options and names, a number in decimal, and a name with an ending.
 #![tactic(auto)]
 
-ghost use Rattle.std.specs.Prelude.{◌≤◌, ◌≡◌, length, take};
+ghost use Rattle.std.specs.Prelude.{◌-◌, ◌≤◌, cond, ◌≡◌, length, take, set};
 ghost use Rattle.std.specs.Fn.{FnOnceReturnsAt};
 ghost use Rattle.io.specs.Counts.{IsPrefixLen};
 ghost use Rattle.night_arguments.specs.Arguments.{number_of, same_of, joined_of};
-ghost use Rattle.night_arguments.specs.Options.{kind_of, given, names_from, call_of};
+ghost use Rattle.night_arguments.specs.Options.{kind_of, kind_number, is_free, names_from, told, call_of};
 
 // The number below 2^32 that a text is, in decimal.
 #[tactic(auto, using(crate::proofs::Decimal::same_number))]
@@ -22,7 +22,8 @@ pub fn same(a: &[u8], b: &[u8]) -> bool
     a == b
 }
 
-// What an argument is that is no option's value: a name, `--`, an option that there is not, or an option.
+// What an argument is that is no option's value: a name, `--`, an option that there is not, or an option, a row each, those that name a file in the
+// order of the night's files. `read_call` takes these by their numbers, which are the places in this list, from 0: an option's row is its number less 3.
 #[derive(Clone, Copy)]
 pub enum Kind {
     Name,
@@ -30,6 +31,15 @@ pub enum Kind {
     Unknown,
     Area,
     Log,
+}
+
+impl Kind {
+    // The number that `read_call` knows a kind by.
+    pub fn number(self) -> u8
+        ensures { result ≡ kind_number self }
+    {
+        self as u8
+    }
 }
 
 #[tactic(auto, unfolding(crate::specs::Options::kind_of))]
@@ -51,77 +61,61 @@ pub fn kind_of(text: &[u8]) -> Kind
     Kind::Unknown
 }
 
-// The options of a call: which of its arguments, counted from 1, is the value of each that is given.
-#[derive(Clone, Copy)]
-pub struct Options {
-    pub area: Option<u8>,
-    pub log: Option<u8>,
-}
-
-// What a call's arguments are: which of them, counted from 1, is the first of its six names, and its options.
-#[derive(Clone, Copy)]
-pub struct Call {
-    pub names: u8,
-    pub options: Options,
-}
-
-impl Options {
-    // The option of this kind has its value, where it is there and had none.
-    fn given(self, kind: Kind, value: u8) -> Option<Options>
-        ensures { result ≡ given kind value self }
-    {
-        match kind {
-            Kind::Area if self.area.is_none() => Some(Options {
-                area: Some(value),
-                ..self
-            }),
-            Kind::Log if self.log.is_none() => Some(Options {
-                log: Some(value),
-                ..self
-            }),
-            _ => None,
-        }
-    }
-}
-
-// The call whose six names begin behind the first `at` of so many arguments.
-fn names_from(count: usize, at: usize, options: Options) -> Option<Call>
-    requires { (at ≤ count) × (count ≤ 32) }
-    ensures { result ≡ names_from count at options }
+// The option of this kind has its value, where it is there and had none.
+fn give(kind: u8, value: u8, values: &mut [u8]) -> bool
+    ensures value { result ≡ is_free kind values.old }
+    ensures values_after { values.new ≡ cond (is_free kind values.old) (set values.old (kind - 3) value) values.old }
 {
-    if at + 6 != count {
-        return None;
+    if kind < 3 {
+        return false;
     }
-    Some(Call {
-        names: (at + 1) as u8,
-        options,
-    })
+    let k = (kind - 3) as usize;
+    if values.len() <= k {
+        return false;
+    }
+    if values[k] != 0 {
+        return false;
+    }
+    values[k] = value;
+    true
 }
 
-// The call that arguments of these kinds are.
-pub fn read_call(kinds: &[Kind]) -> Option<Call>
-    ensures { result ≡ call_of kinds.now }
+// Where six names begin behind the first `at` of so many arguments, counted from 1; or 0.
+fn names_from(count: usize, at: usize) -> usize
+    requires { at ≤ count }
+    ensures upper_bound { result ≤ count }
+    ensures value { result ≡ names_from count at }
 {
-    let count = kinds.len();
-    if 32 < count {
-        return None;
+    if count - at != 6 {
+        return 0;
     }
-    let mut options = Options {
-        area: None,
-        log: None,
-    };
+    at + 1
+}
+
+// Where a call's six names begin, counted from 1, by the kinds of its arguments, those of `Kind` as numbers and further ones for further options; 0
+// where they are none of a call. Each option's value is told by its number in `values`, which are 0 at the start.
+pub fn read_call(kinds: &[u8], values: &mut [u8]) -> u8
+    ensures { call_of kinds.now values.old ≡ told result values.new }
+{
+    if 32 < kinds.len() {
+        return 0;
+    }
     let mut i = 0;
     // A `while`, since an option takes its value along: two arguments a turn.
-    while i + 1 < count {
+    while i + 1 < kinds.len() {
         let kind = kinds[i];
-        match kind {
-            Kind::Name => return names_from(count, i, options),
-            Kind::End => return names_from(count, i + 1, options),
-            _ => options = options.given(kind, (i + 2) as u8)?,
+        if kind == 0 {
+            return names_from(kinds.len(), i) as u8;
+        }
+        if kind == 1 {
+            return names_from(kinds.len(), i + 1) as u8;
+        }
+        if !give(kind, (i + 2) as u8, values) {
+            return 0;
         }
         i += 2;
     }
-    None
+    0
 }
 
 // A name and an ending are put at the buffer's front; the answer is how many bytes they are, 0 where the buffer is too short.

@@ -1,58 +1,51 @@
 -- `night_arguments::read_call` meets its contract: each turn looks at an option and its value. Assumes nothing.
-use Prim.Native.Nat.{◌+◌}
+use Prim.Native.Nat.{ℕ, ◌+◌}
 use native.Mathlib.Omega.{arith}
+use mathlib.Core.List.{List}
 use mathlib.Core.Path.{refl, sym, ap, ◌∙◌}
-use lib.ListN.{length, drop}
-use Rattle.std.specs.Prelude.{Option}
-use Rattle.night_arguments.specs.declared.Options.{Options}
-use Rattle.night_arguments.specs.Options.{and_then, call_from}
-use Rattle.night_arguments.proofs.Calls.{call_names, call_ended, call_given, call_end, too_many, call_start}
+use lib.ListN.{length, drop, length-set}
+use Rattle.laws.proofs.Conds.{picks, passes}
+use Rattle.night_arguments.specs.Options.{told, call_from}
+use Rattle.night_arguments.proofs.Calls.{call_names, call_ended, call_no, call_on, call_end, too_many, call_start}
 use Rattle.night_arguments.proofs.read_call.Goals as goal
 
-pub returns-then-count-gt32 : goal.returns-then-count-gt32
-returns-then-count-gt32 c = sym (too_many c.args.kinds.now c.if-count-gt32.true)
+pub returns-then-kinds-gt32 : goal.returns-then-kinds-gt32
+returns-then-kinds-gt32 c = too_many c.args.kinds.now c.args.values.now c.if-kinds-gt32.true
 
 pub loop-i-init : goal.loop-i-init
-loop-i-init c = record {
-  count_is = refl;
-  few = c.if-count-gt32.false;
-  within = omega arith;
-  same = call_start c.args.kinds.now c.if-count-gt32.false;
-}
+loop-i-init c = (c.if-kinds-gt32.false, omega arith, refl, call_start c.args.kinds.now c.args.values.now c.if-kinds-gt32.false)
 
-pub returns-in-Name : goal.returns-in-Name
-returns-in-Name c =
+pub returns-then-kind-eq0 : goal.returns-then-kind-eq0
+returns-then-kind-eq0 c =
     let l = c.loop-i in
     let k = c.args.kinds.now in
-    c.names_from.ensures ∙ sym (l.invariant.same ∙ call_names k l.options (length k) l.i _ c.loop-i-test.true c.in-Name.is)
+    rw c.names_from.ensures.value (l.invariant.3 ∙ call_names k l.values (length k) l.i c.loop-i-test.true c.if-kind-eq0.true)
 
-pub returns-in-End : goal.returns-in-End
-returns-in-End c =
+pub returns-then-kind-eq1 : goal.returns-then-kind-eq1
+returns-then-kind-eq1 c =
     let l = c.loop-i in
     let k = c.args.kinds.now in
-    c.names_from-in-End.ensures ∙ sym (l.invariant.same ∙ call_ended k l.options (length k) l.i _ c.loop-i-test.true c.in-End.is)
+    rw c.names_from-then-kind-eq1.ensures.value (l.invariant.3 ∙ call_ended k l.values (length k) l.i c.loop-i-test.true c.if-kind-eq0.false c.if-kind-eq1.true)
 
-pub returns-in_err-options-in_default : goal.returns-in_err-options-in_default
-returns-in_err-options-in_default c =
+pub returns-then-not-give : goal.returns-then-not-give
+returns-then-not-give c =
     let l = c.loop-i in
     let k = c.args.kinds.now in
-    let go = λ (p : Option Options). and_then p (λ (q : Options). call_from (length k) (l.i + 2) q (drop (l.i + 2) k)) in
-    c.from_residual.ensures
-    ∙ sym (l.invariant.same ∙ call_given k l.options (length k) l.i _ c.loop-i-test.true refl c.in_default.not-Name c.in_default.not-End
-    ∙ ap go (sym c.given.ensures ∙ c.in_err-options-in_default.was))
+    let e = sym c.give.ensures.value ∙ c.if-not-give.true in
+    l.invariant.3 ∙ call_no k l.values (length k) l.i c.loop-i-test.true c.if-kind-eq0.false c.if-kind-eq1.false e
+    ∙ ap (told 0) (sym (c.give.ensures.values_after ∙ passes _ _ e))
 
 pub loop-i-preserved : goal.loop-i-preserved
 loop-i-preserved c =
     let l = c.loop-i in
     let k = c.args.kinds.now in
-    let go = λ (p : Option Options). and_then p (λ (q : Options). call_from (length k) (l.i + 2) q (drop (l.i + 2) k)) in
-    record {
-      count_is = refl;
-      few = l.invariant.few;
-      within = omega arith;
-      same = l.invariant.same ∙ call_given k l.options (length k) l.i _ c.loop-i-test.true refl c.in_default.not-Name c.in_default.not-End
-          ∙ ap go (sym c.given.ensures ∙ c.in_ok-options-in_default.was);
-    }
+    let e = sym c.give.ensures.value ∙ c.if-not-give.false in (
+      l.invariant.0,
+      omega arith,
+      ap length (c.give.ensures.values_after ∙ picks _ _ e) ∙ length-set _ _ _ ∙ l.invariant.2,
+      l.invariant.3 ∙ call_on k l.values (length k) l.i c.loop-i-test.true c.if-kind-eq0.false c.if-kind-eq1.false e
+          ∙ ap (λ (v : List ℕ). call_from (length k) (l.i + 2) v (drop (l.i + 2) k)) (sym (c.give.ensures.values_after ∙ picks _ _ e)),
+    )
 
 pub returns : goal.returns
-returns c = sym (c.loop-i.invariant.same ∙ call_end c.args.kinds.now c.loop-i.options _ c.loop-i.i c.loop-i-test.false)
+returns c = c.loop-i.invariant.3 ∙ call_end c.args.kinds.now c.loop-i.values _ c.loop-i.i c.loop-i-test.false

@@ -6,12 +6,8 @@ use Rattle.night_arguments.specs.Options.{call_from, call_of}
 use Rattle.night_arguments.proofs.read_call.Given as goal
 
 abbrev pub invariant-loop-i : goal.invariant-loop-i
-invariant-loop-i l = record {
-  count_is : l.count ≡ length l.kinds;
-  few : length l.kinds ≤ 32;
-  within : l.i ≤ length l.kinds;
-  same : call_of l.kinds ≡ call_from (length l.kinds) l.i l.options (drop l.i l.kinds);
-}
+invariant-loop-i l = (length l.kinds ≤ 32) × (l.i ≤ length l.kinds) × (length l.values ≡ length l.initial.values)
+    × (call_of l.kinds l.initial.values ≡ call_from (length l.kinds) l.i l.values (drop l.i l.kinds))
 
 abbrev pub decreases-loop-i : goal.decreases-loop-i
-decreases-loop-i l = l.count - l.i
+decreases-loop-i l = length l.kinds - l.i
