@@ -2,7 +2,6 @@
 #![tactic(auto)]
 
 ghost use Rattle.std.specs.Prelude.{◌-◌, ◌≤◌, cond, ◌≡◌, length, take, set};
-ghost use Rattle.std.specs.Fn.{FnOnceReturnsAt};
 ghost use Rattle.io.specs.Counts.{IsPrefixLen};
 ghost use Rattle.night_arguments.specs.Arguments.{number_of, same_of, joined_of};
 ghost use Rattle.night_arguments.specs.Options.{kind_of, kind_number, is_free, names_from, told, call_of};
@@ -133,14 +132,4 @@ pub fn joined(name: &[u8], ending: &[u8], buffer: &mut [u8]) -> usize
     numbers::copy(name, buffer);
     numbers::copy(ending, &mut buffer[name.len()..]);
     name.len() + ending.len()
-}
-
-// What a function makes of a name with an ending: of no bytes where the two are longer than a path may be.
-pub fn with_joined<T, F: FnOnce(&[u8]) -> T>(name: &[u8], ending: &[u8], act: F) -> T
-    requires { F.IsAlwaysCallable act }
-    ensures { FnOnceReturnsAt F.FnOnce act (joined_of name.now ending.now 4096) result }
-{
-    let mut path = io::buffer();
-    let n = joined(name, ending, &mut path);
-    act(&path[..n])
 }

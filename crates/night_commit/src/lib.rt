@@ -31,7 +31,7 @@ pub struct Contents<'a> {
 }
 
 fn open_with<R: Files>(rt: &R, name: &[u8], ending: &[u8]) -> Result<R::File> {
-    night_arguments::with_joined(name, ending, |path| host::open(rt, path))
+    night_names::with_joined(name, ending, |path| host::open(rt, path))
 }
 
 // A name with this ending is there, or cannot be told not to be.
@@ -90,7 +90,7 @@ fn sync_home(rt: &impl Files, state: &[u8]) -> bool {
 }
 
 fn take_night(rt: &impl Files, state: &[u8]) -> Result<()> {
-    night_arguments::with_joined(state, b".night", |path| host::make_folder(rt, path))
+    night_names::with_joined(state, b".night", |path| host::make_folder(rt, path))
 }
 
 // What was to be made is there already.
@@ -102,7 +102,7 @@ fn is_taken(made: &Result<()>) -> bool {
 }
 
 fn remove_folder(rt: &impl Files, state: &[u8], ending: &[u8]) -> Result<()> {
-    night_arguments::with_joined(state, ending, |path| host::remove_folder(rt, path))
+    night_names::with_joined(state, ending, |path| host::remove_folder(rt, path))
 }
 
 // What was to be removed or renamed is so, or is gone.
@@ -116,7 +116,7 @@ fn is_gone(done: Result<()>) -> bool {
 fn commit(rt: &impl Files, state: &[u8]) -> bool {
     let mut done = io::buffer();
     let n = night_arguments::joined(state, b".done", &mut done);
-    night_arguments::with_joined(state, b".night", |night| {
+    night_names::with_joined(state, b".night", |night| {
         host::rename(rt, night, &done[..n]).is_ok()
     })
 }

@@ -3,7 +3,9 @@
 #![tactic(auto)]
 
 ghost use Rattle.std.specs.Prelude.{◌+◌, ◌-◌, ◌≤◌, ◌≡◌, ◌==◌, length, take, count_by};
+ghost use Rattle.std.specs.Fn.{FnOnceReturnsAt};
 ghost use Rattle.io.specs.Counts.{IsPrefixLen};
+ghost use Rattle.night_arguments.specs.Arguments.{joined_of};
 ghost use Rattle.night_names.specs.Names.{last_at, is_place, is_beside, is_with, is_of_state, is_read};
 ghost use Rattle.night_names.specs.Names.{are_names, parts_of, with_name, names_of, name_at};
 ghost use Rattle.night_names.specs.Names.{files_of, none_empty, are_recorded, is_among, is_further, is_area, named_place, place_of, work_of};
@@ -240,4 +242,14 @@ pub fn work_place(state: &[u8], folder: &[u8], place: &[u8], buffer: &mut [u8]) 
     let mut front = io::buffer();
     let n = night_arguments::joined(state, folder, &mut front);
     night_arguments::joined(&front[..n], &place[at..], buffer)
+}
+
+// What a function makes of a name with an ending: of no bytes where the two are longer than a path may be.
+pub fn with_joined<T, F: FnOnce(&[u8]) -> T>(name: &[u8], ending: &[u8], act: F) -> T
+    requires { F.IsAlwaysCallable act }
+    ensures { FnOnceReturnsAt F.FnOnce act (joined_of name.now ending.now 4096) result }
+{
+    let mut path = io::buffer();
+    let n = night_arguments::joined(name, ending, &mut path);
+    act(&path[..n])
 }

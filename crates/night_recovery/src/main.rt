@@ -12,16 +12,16 @@ use std::io::Result;
 
 // A folder in a case's; git keeps no empty ones.
 fn make_in(rt: &impl Files, case: &[u8], name: &[u8]) {
-    let _ = night_arguments::with_joined(case, name, |path| host::make_folder(rt, path));
+    let _ = night_names::with_joined(case, name, |path| host::make_folder(rt, path));
 }
 
 // An empty file in a case's folder.
 fn create_in(rt: &impl Files, case: &[u8], name: &[u8]) {
-    let _ = night_arguments::with_joined(case, name, |path| host::create(rt, path));
+    let _ = night_names::with_joined(case, name, |path| host::create(rt, path));
 }
 
 fn open_in<R: Files>(rt: &R, case: &[u8], name: &[u8]) -> Result<R::File> {
-    night_arguments::with_joined(case, name, |path| host::open(rt, path))
+    night_names::with_joined(case, name, |path| host::open(rt, path))
 }
 
 // What a file of a case holds, - where it is absent.
