@@ -4,8 +4,9 @@
 use bits::Flag;
 use boundary::Watch;
 use cabinet::{Leapt, Ran};
-use cases::{hexadecimal, install, number};
+use cases::install;
 use counts::Cycles;
+use host::{named_decimal, named_hexadecimal};
 use machine::Machine;
 use printing::Line;
 
@@ -107,27 +108,27 @@ fn started(m: Machine, s: Start) -> Machine {
 }
 
 fn show_counts(rt: &impl Print, r: Ran) {
-    number(rt, b" stop ", r.reply.number() as u64);
+    named_decimal(rt, b" stop ", r.reply.number() as u64);
     let counts = lines::run_numbers(r.counts);
     lines::counts(Line::empty(), counts).print(rt);
 }
 
 fn show_machine(rt: &impl Print, m: Machine) {
     let c = m.chip.registers;
-    hexadecimal(rt, b" pc ", c.pc as u64, 4);
-    hexadecimal(rt, b" a ", c.a as u64, 2);
-    hexadecimal(rt, b" sp ", c.sp as u64, 4);
-    hexadecimal(rt, b" cc ", u8::from(c.codes) as u64, 2);
-    number(rt, b" waiting ", c.waiting as u64);
-    number(rt, b" nmi ", m.nmi as u64);
-    number(rt, b" rame ", m.chip.bus.rame as u64);
-    number(rt, b" standby ", m.chip.bus.standby as u64);
+    named_hexadecimal(rt, b" pc ", c.pc as u64, 4);
+    named_hexadecimal(rt, b" a ", c.a as u64, 2);
+    named_hexadecimal(rt, b" sp ", c.sp as u64, 4);
+    named_hexadecimal(rt, b" cc ", u8::from(c.codes) as u64, 2);
+    named_decimal(rt, b" waiting ", c.waiting as u64);
+    named_decimal(rt, b" nmi ", m.nmi as u64);
+    named_decimal(rt, b" rame ", m.chip.bus.rame as u64);
+    named_decimal(rt, b" standby ", m.chip.bus.standby as u64);
 }
 
 fn show_change(rt: &impl Print, name: &[u8], at: u64, before: u8, after: u8) {
     if before != after {
-        hexadecimal(rt, name, at, 4);
-        hexadecimal(rt, b"] ", after as u64, 2);
+        named_hexadecimal(rt, name, at, 4);
+        named_hexadecimal(rt, b"] ", after as u64, 2);
     }
 }
 
@@ -158,7 +159,7 @@ fn show(
 
 fn show_leaps(rt: &impl Print, leaping: bool, leapt: Leapt) {
     if leaping {
-        number(rt, b" leaps ", leapt.leaps.0 as u64);
+        named_decimal(rt, b" leaps ", leapt.leaps.0 as u64);
     }
 }
 

@@ -7,7 +7,7 @@ use Rattle.boundary.specs.declared.Grown.{Grown}
 use Rattle.boundary.specs.declared.Stop.{Stop}
 use Rattle.boundary.specs.declared.Stop.TheVariants.{Limit, Undefined, Full, LogFull}
 use Rattle.boundary.specs.declared.Watch.{Watch}
-use Rattle.boundary.specs.declared.Terms as code
+use Rattle.boundary.specs.declared.Asked.{Asked}
 
 -- what a call lends: the image, 02's "second lent area", the output, and 02's "second lent buffer", the wake log
 pub record Lent : Type 0 where
@@ -45,8 +45,8 @@ pub record Terms : Type 0 where
 abbrev pub watching : List ℕ → ℕ → Watch → Terms
 watching session limit watch = record { session = session; limit = limit; watch = watch }
 
--- the code's terms, in these words
-abbrev pub terms_of : code.Terms → Terms
+-- what the code is asked, in these words
+abbrev pub terms_of : Asked → Terms
 terms_of t = watching t.session.now t.limit t.watch
 
 -- the ordinary run: nothing is watched

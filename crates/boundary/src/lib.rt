@@ -53,7 +53,7 @@ pub struct Watch {
 
 // What a run is asked: its session, its limit N, and what is watched.
 #[derive(Clone, Copy)]
-pub struct Terms<'a> {
+pub struct Asked<'a> {
     pub session: &'a [u8],
     pub limit: u32,
     pub watch: Watch,
@@ -344,13 +344,14 @@ impl State {
             let sent = self.after_sending();
             return sent.act(logs, since, image, area, log);
         }
-        self.act(logs, since, image, area, log)
+        let rested = self;
+        rested.act(logs, since, image, area, log)
     }
 
     // One boundary.
     pub fn boundary(
         self,
-        terms: Terms,
+        terms: Asked,
         image: &mut [u8],
         area: &mut [u8],
         output: &mut [u8],

@@ -11,7 +11,7 @@ ghost use Rattle.boundary.specs.Start.{start_of};
 ghost use Rattle.cabinet.specs.Answers.{refusal_of, told_admission, told_stop, ended_with, end_of};
 ghost use Rattle.cabinet.specs.Answers.{report_of, answered, answer_of, leaps_of};
 
-use boundary::{State, Stop, Terms, Watch};
+use boundary::{Asked, State, Stop, Watch};
 use counts::{Counts, Cycles, Entries, Instructions, Leaps, Records, Sent};
 use machine::{Machine, PowerRefusal};
 use opcodes::Instruction;
@@ -57,7 +57,7 @@ fn start(machine: Machine) -> State
 }
 
 // The tests of 1, 12, 2 and 3, then the session from the front.
-fn admit(image: &[u8], area: &[u8], m: Machine, terms: Terms) -> Result<(), Reply>
+fn admit(image: &[u8], area: &[u8], m: Machine, terms: Asked) -> Result<(), Reply>
     ensures { (l : Lent) → told_admission result ≡ refusal_of (terms_of terms.entry) m (with_memories l (memories image.now area.now)) }
 {
     if image.len() != 65536 {
@@ -94,7 +94,7 @@ fn end(
     image: &mut [u8],
     area: &mut [u8],
     m: Machine,
-    terms: Terms,
+    terms: Asked,
     output: &mut [u8],
     log: &mut [u8],
 ) -> Ending
@@ -142,7 +142,7 @@ pub fn power_on(image: &[u8], r: u32) -> Result<Machine, PowerRefusal>
     power::power_on(image, r)
 }
 
-// The public calls keep the parameters that README and docs/CONTRACTS.md name; within, session, limit and watch go together as `Terms`.
+// The public calls keep the parameters that README and docs/CONTRACTS.md name; within, session, limit and watch go together as `Asked`.
 
 // Either run, leaping or single, watched: the same answer, and how many leaps there were or would have been.
 pub fn watch_either(
@@ -161,7 +161,7 @@ pub fn watch_either(
         × (result.leaps.0
         ≡ leaps_of (watching session.now n watch) m (lending image.old area.old output.old log.old)) }
 {
-    let terms = Terms {
+    let terms = Asked {
         session,
         limit: n,
         watch,

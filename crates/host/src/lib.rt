@@ -45,6 +45,18 @@ pub fn show_hexadecimal(rt: &impl Print, n: u64, width: usize) {
     show(rt, &digits[..k]);
 }
 
+// A name, and a number in decimal.
+pub fn named_decimal(rt: &impl Print, name: &[u8], n: u64) {
+    show(rt, name);
+    show_decimal(rt, n);
+}
+
+// A name, and a number in hexadecimal, in so many digits at least.
+pub fn named_hexadecimal(rt: &impl Print, name: &[u8], n: u64, width: usize) {
+    show(rt, name);
+    show_hexadecimal(rt, n, width);
+}
+
 // Reads until the buffer is full, the stream ends or a read fails. The bytes are at the buffer's front; the answer is how many they are.
 pub fn read_full(from: &mut impl Read, buffer: &mut [u8]) -> usize
     ensures { IsPrefixLen result buffer.new }

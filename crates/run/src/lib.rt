@@ -14,7 +14,7 @@ ghost use Rattle.boundary.specs.Boundary.{run_of};
 ghost use Rattle.boundary.specs.Counts.{Fine, Fits};
 ghost use Rattle.run.specs.Leaps.{is_due, First, stirs, AfterLeap, strode_of, Paced};
 
-use boundary::{Grown, State, Stop, Terms, UNGROWN};
+use boundary::{Asked, Grown, State, Stop, UNGROWN};
 use chip::Chip;
 use counts::{Cycles, Instructions};
 use machine::Machine;
@@ -96,7 +96,7 @@ fn interrupt_room(most: u32, m: Machine) -> u32
 }
 
 // How many cycles pass before a boundary that is more than a waiting cycle or an instruction.
-fn room(terms: Terms, s: State) -> u32
+fn room(terms: Asked, s: State) -> u32
     requires { s.cycles.0 ≤ terms.limit }
     ensures { First (terms.entry.limit - s.cycles.0) result (stirs terms.entry.session.now s) }
 {
@@ -107,7 +107,7 @@ fn room(terms: Terms, s: State) -> u32
 }
 
 // After a waiting cycle, the rest of its leap at once: the run goes on the same, from where the leap ends.
-fn leap(terms: Terms, s: State) -> State
+fn leap(terms: Asked, s: State) -> State
     requires { Fine s × (terms.limit ≤ 1000000000) }
     ensures { AfterLeap (terms_of terms.entry) s result }
 {
@@ -144,7 +144,7 @@ fn strode(s: State, c: Registers, cycles: Cycles, instructions: Instructions) ->
 }
 
 // Plain instructions one after the other, as long as nothing else stirs: the run goes on the same, from where they end.
-fn stride(terms: Terms, s: State, image: &mut [u8]) -> State
+fn stride(terms: Asked, s: State, image: &mut [u8]) -> State
     requires { Fine s × (terms.limit ≤ 1000000000) }
     ensures { Paced (terms_of terms.entry) s image.old result image.new }
 {
@@ -174,7 +174,7 @@ fn stride(terms: Terms, s: State, image: &mut [u8]) -> State
 }
 
 // What either run does between two boundaries. The flag stays a flag: as a closure its law would stand in each caller's clause.
-fn pace(leaping: bool, terms: Terms, s: State, image: &mut [u8]) -> State
+fn pace(leaping: bool, terms: Asked, s: State, image: &mut [u8]) -> State
     requires { Fine s × (terms.limit ≤ 1000000000) }
     ensures { Paced (terms_of terms.entry) s image.old result image.new }
 {
@@ -190,7 +190,7 @@ fn pace(leaping: bool, terms: Terms, s: State, image: &mut [u8]) -> State
 // A run, leaping or single: boundaries until one stops it.
 pub fn run(
     leaping: bool,
-    terms: Terms,
+    terms: Asked,
     image: &mut [u8],
     area: &mut [u8],
     output: &mut [u8],

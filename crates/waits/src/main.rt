@@ -4,7 +4,8 @@
 #![tactic(auto)]
 
 use cabinet::Ran;
-use cases::{hexadecimal, install, number};
+use cases::install;
+use host::{named_decimal, named_hexadecimal};
 use printing::Line;
 
 // Where the code and the interrupts' handler go.
@@ -27,16 +28,16 @@ fn rom(code: &[u8], handler: &[u8]) -> [u8; 65536] {
 
 fn show(rt: &impl Print, r: Ran, first: u8, second: u8) {
     let c = r.machine.chip.registers;
-    number(rt, b" stop ", r.reply.number() as u64);
+    named_decimal(rt, b" stop ", r.reply.number() as u64);
     let counts = lines::run_numbers(r.counts);
     lines::counts(Line::empty(), counts).print(rt);
-    hexadecimal(rt, b" pc ", c.pc as u64, 4);
-    hexadecimal(rt, b" a ", c.a as u64, 2);
-    hexadecimal(rt, b" b ", c.b as u64, 2);
-    hexadecimal(rt, b" sp ", c.sp as u64, 4);
-    hexadecimal(rt, b" cc ", u8::from(c.codes) as u64, 2);
-    hexadecimal(rt, b" 80 ", first as u64, 2);
-    hexadecimal(rt, b" 81 ", second as u64, 2);
+    named_hexadecimal(rt, b" pc ", c.pc as u64, 4);
+    named_hexadecimal(rt, b" a ", c.a as u64, 2);
+    named_hexadecimal(rt, b" b ", c.b as u64, 2);
+    named_hexadecimal(rt, b" sp ", c.sp as u64, 4);
+    named_hexadecimal(rt, b" cc ", u8::from(c.codes) as u64, 2);
+    named_hexadecimal(rt, b" 80 ", first as u64, 2);
+    named_hexadecimal(rt, b" 81 ", second as u64, 2);
 }
 
 // Either run, from power-on.
@@ -51,7 +52,7 @@ fn run(rt: &impl Print, leaping: bool, code: &[u8], handler: &[u8], session: &[u
         let l = cabinet::run_leaping(&mut image, &mut area, m, session, n, &mut output);
         host::show(rt, b"  leaping");
         show(rt, l.ran, image[0x80], image[0x81]);
-        number(rt, b" leaps ", l.leaps.0 as u64);
+        named_decimal(rt, b" leaps ", l.leaps.0 as u64);
     } else {
         let r = cabinet::run_single(&mut image, &mut area, m, session, n, &mut output);
         host::show(rt, b"  single ");

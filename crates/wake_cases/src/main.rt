@@ -4,8 +4,9 @@
 use bits::Flag;
 use boundary::Watch;
 use cabinet::Ran;
-use cases::{hexadecimal, install, number};
+use cases::install;
 use counts::Cycles;
+use host::{named_decimal, named_hexadecimal};
 use machine::Machine;
 use printing::Line;
 
@@ -96,18 +97,18 @@ fn show_bytes(rt: &impl Print, bytes: &[u8]) {
 }
 
 fn show_counts(rt: &impl Print, r: Ran) {
-    number(rt, b" stop ", r.reply.number() as u64);
+    named_decimal(rt, b" stop ", r.reply.number() as u64);
     let counts = lines::run_numbers(r.counts);
     lines::counts(Line::empty(), counts).print(rt);
 }
 
 fn show_machine(rt: &impl Print, m: Machine) {
     let c = m.chip.registers;
-    hexadecimal(rt, b" pc ", c.pc as u64, 4);
-    hexadecimal(rt, b" sp ", c.sp as u64, 4);
-    number(rt, b" nmi ", m.nmi as u64);
-    number(rt, b" waiting ", c.waiting as u64);
-    number(rt, b" ocf ", m.chip.bus.timer.ocf.set as u64);
+    named_hexadecimal(rt, b" pc ", c.pc as u64, 4);
+    named_hexadecimal(rt, b" sp ", c.sp as u64, 4);
+    named_decimal(rt, b" nmi ", m.nmi as u64);
+    named_decimal(rt, b" waiting ", c.waiting as u64);
+    named_decimal(rt, b" ocf ", m.chip.bus.timer.ocf.set as u64);
 }
 
 fn show(rt: &impl Print, r: Ran, log: &[u8]) {
@@ -135,7 +136,7 @@ fn run(rt: &impl Print, leaping: bool, opcode: u8, session: &[u8], s: Start, roo
         );
         host::show(rt, b"  leaping");
         show(rt, l.ran, log);
-        number(rt, b" leaps ", l.leaps.0 as u64);
+        named_decimal(rt, b" leaps ", l.leaps.0 as u64);
     } else {
         let r = cabinet::watch_single(
             &mut image, &mut area, start, session, room.n, room.watch, output, log,
