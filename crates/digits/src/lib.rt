@@ -2,13 +2,13 @@
 #![tactic(auto)]
 
 ghost use Rattle.std.specs.Prelude.{◌≡◌, ◌≤◌};
-ghost use Rattle.digits.specs.Digits.{with_digit, number_of};
+ghost use Rattle.digits.specs.Digits.{digit_more, value_of};
 
 // A number with a digit more.
-#[tactic(auto, using(std::proofs::lemmas::Grind::common_steps), unfolding(crate::specs::Digits::with_digit))]
+#[tactic(auto, using(std::proofs::lemmas::Grind::common_steps), unfolding(crate::specs::Digits::digit_more))]
 fn with_digit(base: u32, v: u32, c: u8) -> Option<u32>
     requires { (2 ≤ base) × (base ≤ 36) }
-    ensures { result ≡ with_digit base v c }
+    ensures { result ≡ digit_more base v c }
 {
     let digit = char::from(c).to_digit(base)?;
     v.checked_mul(base)?.checked_add(digit)
@@ -17,7 +17,7 @@ fn with_digit(base: u32, v: u32, c: u8) -> Option<u32>
 // The number below 2^32 that a text is: there is none where it is empty or has another character.
 pub fn number(base: u32, text: &[u8]) -> Option<u32>
     requires { (2 ≤ base) × (base ≤ 36) }
-    ensures { result ≡ number_of base text.now }
+    ensures { result ≡ value_of base text.now }
 {
     if text.is_empty() {
         return None;
