@@ -143,7 +143,7 @@ fn show_changes(rt: &impl Print, name: &[u8], at: u64, before: &[u8], after: &[u
 fn show(
     rt: &impl Print,
     leapt: Leapt,
-    code: &[u8],
+    before: &[u8],
     image: &[u8],
     area: &[u8],
     output: &[u8],
@@ -151,7 +151,7 @@ fn show(
 ) {
     show_counts(rt, leapt.ran);
     show_machine(rt, leapt.ran.machine);
-    show_changes(rt, b" [", 0, &rom(code), image);
+    show_changes(rt, b" [", 0, before, image);
     show_changes(rt, b" area[", 0x80, &outside(), area);
     show_changes(rt, b" output[", 0, b"\xEE", output);
     show_changes(rt, b" log[", 0, &[0xEE; 8], log);
@@ -167,7 +167,7 @@ fn show_leaps(rt: &impl Print, leaping: bool, leapt: Leapt) {
 fn run(
     rt: &impl Print,
     leaping: bool,
-    code: &[u8],
+    before: &[u8],
     session: &[u8],
     m: Machine,
     l: Lends,
@@ -181,20 +181,27 @@ fn run(
         since: Cycles(0),
     };
     let leapt = cabinet::watch_either(leaping, image, area, m, session, l.n, watch, output, log);
-    show(rt, leapt, code, image, area, output, log);
+    show(rt, leapt, before, image, area, output, log);
     show_leaps(rt, leaping, leapt);
 }
 
 // The same with what a case lends.
-fn lend(rt: &impl Print, leaping: bool, code: &[u8], session: &[u8], m: Machine, l: Lends) {
-    let mut image = rom(code);
+fn lend(
+    rt: &impl Print,
+    leaping: bool,
+    before: &[u8; 65536],
+    session: &[u8],
+    m: Machine,
+    l: Lends,
+) {
+    let mut image = *before;
     let mut area = outside();
     let mut output = [0xEEu8; 1];
     let mut log = [0xEEu8; 8];
     run(
         rt,
         leaping,
-        code,
+        before,
         session,
         m,
         l,
@@ -213,9 +220,9 @@ fn both(rt: &impl Print, title: &[u8], code: &[u8], session: &[u8], s: Start, l:
     let start = started(m, s);
     host::show(rt, title);
     host::show(rt, b"\n  single ");
-    lend(rt, false, code, session, start, l);
+    lend(rt, false, &image, session, start, l);
     host::show(rt, b"\n  leaping");
-    lend(rt, true, code, session, start, l);
+    lend(rt, true, &image, session, start, l);
     host::show(rt, b"\n");
 }
 

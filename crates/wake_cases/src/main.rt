@@ -29,19 +29,18 @@ struct Room {
     watch: Watch,
 }
 
-// Each vector leads to an address of its own, $0200 to $0260, where the code stays in place; power-on starts at $0100 with this opcode.
-fn rom(opcode: u8) -> [u8; 65536] {
-    let mut image = [0u8; 65536];
+// Each vector leads to an address of its own, $0200 to $0260, where the code stays in place; power-on starts at $0100 with this opcode. It is laid into the
+// run's own image: one that is returned is copied whole.
+fn lay_rom(image: &mut [u8], opcode: u8) {
     install(
-        &mut image,
+        image,
         0xFFF0,
         b"\x02\x50\x02\x40\x02\x30\x02\x20\x02\x10\x02\x60\x02\0\x01\0",
     );
     for at in (0x0200..=0x0260).step_by(16) {
-        install(&mut image, at, b"\x20\xFE");
+        install(image, at, b"\x20\xFE");
     }
-    image[0x0100] = opcode;
-    image
+    install(image, 0x0100, &[opcode]);
 }
 
 fn has(causes: u8, weight: u8) -> bool {
@@ -120,7 +119,8 @@ fn show(rt: &impl Print, r: Ran, log: &[u8]) {
 
 // Either run, watched.
 fn run(rt: &impl Print, leaping: bool, opcode: u8, session: &[u8], s: Start, room: Room) {
-    let mut image = rom(opcode);
+    let mut image = [0u8; 65536];
+    lay_rom(&mut image, opcode);
     let mut area = [0u8; 128];
     let mut output = [0u8; 1];
     let mut log = [0xEEu8; 24];
