@@ -132,10 +132,12 @@ fn show_change(rt: &impl Print, name: &[u8], at: u64, before: u8, after: u8) {
     }
 }
 
-// The bytes that are not as they were; `at` is the address of the first.
+// The bytes that are not as they were; `at` is the address of the first. By index: with `zip` and `enumerate` the program took half as long again.
 fn show_changes(rt: &impl Print, name: &[u8], at: u64, before: &[u8], after: &[u8]) {
-    for (k, (was, is)) in before.iter().zip(after).enumerate() {
-        show_change(rt, name, at.wrapping_add(k as u64), *was, *is);
+    for k in 0..after.len() {
+        if k < before.len() {
+            show_change(rt, name, at.wrapping_add(k as u64), before[k], after[k]);
+        }
     }
 }
 
