@@ -26,7 +26,7 @@ enum Unread {
 
 // Why a call ends with a refusal. That of a run is told by the night's own line.
 #[derive(Clone, Copy)]
-enum Refusal {
+enum Refused {
     Power(PowerRefusal),
     Area,
     Load(LoadRefusal),
@@ -35,36 +35,36 @@ enum Refusal {
     Ended(u8), // the number of one of night_steps' ends
 }
 
-impl From<PowerRefusal> for Refusal {
-    fn from(refusal: PowerRefusal) -> Refusal {
-        Refusal::Power(refusal)
+impl From<PowerRefusal> for Refused {
+    fn from(refusal: PowerRefusal) -> Refused {
+        Refused::Power(refusal)
     }
 }
 
-impl From<LoadRefusal> for Refusal {
-    fn from(refusal: LoadRefusal) -> Refusal {
-        Refusal::Load(refusal)
+impl From<LoadRefusal> for Refused {
+    fn from(refusal: LoadRefusal) -> Refused {
+        Refused::Load(refusal)
     }
 }
 
-impl Refusal {
+impl Refused {
     fn number(self) -> u8 {
         match self {
-            Refusal::Power(PowerRefusal::WrongImage) => 1,
-            Refusal::Power(PowerRefusal::WrongStart) => 2,
-            Refusal::Area => 12,
-            Refusal::Load(LoadRefusal::WrongLength) => 26,
-            Refusal::Load(LoadRefusal::WrongVersion) => 27,
-            Refusal::Load(LoadRefusal::NoMachine) => 28,
-            Refusal::Load(LoadRefusal::WrongMachine) => 2,
-            Refusal::Arguments => 32,
-            Refusal::Files(refusal) => refusal.number(),
-            Refusal::Ended(number) => number,
+            Refused::Power(PowerRefusal::WrongImage) => 1,
+            Refused::Power(PowerRefusal::WrongStart) => 2,
+            Refused::Area => 12,
+            Refused::Load(LoadRefusal::WrongLength) => 26,
+            Refused::Load(LoadRefusal::WrongVersion) => 27,
+            Refused::Load(LoadRefusal::NoMachine) => 28,
+            Refused::Load(LoadRefusal::WrongMachine) => 2,
+            Refused::Arguments => 32,
+            Refused::Files(refusal) => refusal.number(),
+            Refused::Ended(number) => number,
         }
     }
 }
 
-const UNREAD: Refusal = Refusal::Files(night_steps::Refusal::Unread);
+const UNREAD: Refused = Refused::Files(night_steps::Refusal::Unread);
 
 // The options of a call: which of its arguments is the value of each that is given.
 #[derive(Clone, Copy)]
@@ -110,8 +110,8 @@ fn fill(
     i: u8,
     places: Places,
     buffer: &mut [u8],
-    wrong: Refusal,
-) -> Result<(), Refusal> {
+    wrong: Refused,
+) -> Result<(), Refused> {
     match read_place(rt, i, places, buffer) {
         Ok(count) if count == buffer.len() => Ok(()),
         Ok(_) | Err(Unread::Longer) => Err(wrong),
@@ -130,36 +130,36 @@ fn read_memories(
     places: Places,
     image: &mut [u8],
     area: &mut [u8],
-) -> Result<(), Refusal> {
+) -> Result<(), Refused> {
     fill(
         rt,
         0,
         places,
         image,
-        Refusal::Power(PowerRefusal::WrongImage),
+        Refused::Power(PowerRefusal::WrongImage),
     )?;
     if is_missing(rt, 5, places) & is_missing(rt, 1, places) {
         return Ok(());
     }
-    fill(rt, 5, places, area, Refusal::Area)
+    fill(rt, 5, places, area, Refused::Area)
 }
 
 // The machine that the state file holds, or where there is none the machine that power-on gives.
-fn read_machine(rt: &impl Files, state: &[u8], image: &[u8], r: u32) -> Result<Machine, Refusal> {
+fn read_machine(rt: &impl Files, state: &[u8], image: &[u8], r: u32) -> Result<Machine, Refused> {
     let mut bytes = [0u8; 43];
     match read_file(rt, state, &mut bytes) {
         Ok(n) => Ok(saved::load(cabinet::filled(&bytes, n))?),
-        Err(Unread::Longer) => Err(Refusal::Load(LoadRefusal::WrongLength)),
+        Err(Unread::Longer) => Err(Refused::Load(LoadRefusal::WrongLength)),
         Err(Unread::Missing) => Ok(cabinet::power_on(image, r)?),
         Err(Unread::Failed) => Err(UNREAD),
     }
 }
 
 // What an end of a call refuses, where it is no night's that was placed.
-fn refusal_of(end: Op) -> Refusal {
+fn refusal_of(end: Op) -> Refused {
     match end {
-        Op::Refused(number) | Op::Stopped(number) => Refusal::Ended(number),
-        _ => Refusal::Files(night_steps::Refusal::Failed),
+        Op::Refused(number) | Op::Stopped(number) => Refused::Ended(number),
+        _ => Refused::Files(night_steps::Refusal::Failed),
     }
 }
 
@@ -182,7 +182,7 @@ fn keep(
     places: Places,
     night: Night,
     contents: Contents,
-) -> Result<(), Refusal> {
+) -> Result<(), Refused> {
     let line = night.line();
     if !night.has_stopped() {
         give_up(rt, places);
@@ -214,7 +214,7 @@ fn pass(
     size: usize,
     terms: Terms,
     m: Machine,
-) -> Result<(), Refusal> {
+) -> Result<(), Refused> {
     let mut spare = host::zeros::<1048576>();
     let mut output = io::large_buffer();
     let mut log = host::zeros::<1048576>();
@@ -255,7 +255,7 @@ fn begin(
     session: &mut [u8],
     image: &mut [u8],
     area: &mut [u8],
-) -> Result<(usize, Machine), Refusal> {
+) -> Result<(usize, Machine), Refused> {
     let Ok(size) = read_file(rt, session_name, session) else {
         return Err(UNREAD);
     };
@@ -270,7 +270,7 @@ fn run(
     session_name: &[u8],
     places: Places,
     terms: Terms,
-) -> Result<(), Refusal> {
+) -> Result<(), Refused> {
     let mut session = host::zeros::<1048576>();
     let mut image = io::large_buffer();
     let mut area = [0u8; 128];
@@ -307,9 +307,9 @@ fn call(
     session_name: &[u8],
     places: Places,
     terms: Terms,
-) -> Result<(), Refusal> {
+) -> Result<(), Refused> {
     if night_commit::has_folder(rt, places) {
-        return Err(Refusal::Arguments);
+        return Err(Refused::Arguments);
     }
     match night_commit::prepare(rt, places.state) {
         Op::Run => run(rt, session_name, places, terms),
@@ -323,14 +323,14 @@ fn call_logged(
     session_name: &[u8],
     places: Places,
     terms: Terms,
-) -> Result<(), Refusal> {
+) -> Result<(), Refused> {
     let Some(log) = terms.options.log else {
         return call(rt, session_name, places, terms);
     };
     let mut log_name = io::buffer();
     let n = host::argument(rt, log as usize, &mut log_name);
     if !night_names::is_further(&log_name[..n], session_name, places.state, places.names) {
-        return Err(Refusal::Arguments);
+        return Err(Refused::Arguments);
     }
     let mut buffer = io::buffer();
     let m = night_names::with_name(places.names, &log_name[..n], &mut buffer);
@@ -354,11 +354,11 @@ fn call_with_area(
     session_name: &[u8],
     places: Places,
     terms: Terms,
-) -> Result<(), Refusal> {
+) -> Result<(), Refused> {
     let mut name = io::buffer();
     let n = area_name(rt, terms.options.area, places.state, &mut name);
     if !night_names::is_area(&name[..n], session_name, places.state, places.names) {
-        return Err(Refusal::Arguments);
+        return Err(Refused::Arguments);
     }
     let mut buffer = io::buffer();
     let m = night_names::with_name(places.names, &name[..n], &mut buffer);
@@ -374,9 +374,9 @@ fn call_named(
     state: &[u8],
     output_name: &[u8],
     terms: Terms,
-) -> Result<(), Refusal> {
+) -> Result<(), Refused> {
     if !night_names::are_names(image_name, session_name, state, output_name) {
-        return Err(Refusal::Arguments);
+        return Err(Refused::Arguments);
     }
     let mut buffer = io::buffer();
     let n = night_names::record_names(image_name, output_name, &mut buffer);
@@ -385,12 +385,12 @@ fn call_named(
 }
 
 // The number that an argument is.
-fn number_at(rt: &impl Env, i: usize) -> Result<u32, Refusal> {
-    host::argument_as(rt, i, night_arguments::read_number).ok_or(Refusal::Arguments)
+fn number_at(rt: &impl Env, i: usize) -> Result<u32, Refused> {
+    host::argument_as(rt, i, night_arguments::read_number).ok_or(Refused::Arguments)
 }
 
 // The call whose six names begin at this argument.
-fn call_of(rt: &(impl Files + Env + Print), first: u8, options: Options) -> Result<(), Refusal> {
+fn call_of(rt: &(impl Files + Env + Print), first: u8, options: Options) -> Result<(), Refused> {
     let at = first as usize;
     let terms = Terms {
         n: number_at(rt, at + 2)?,
@@ -440,13 +440,13 @@ fn given(value: u8) -> Option<u8> {
     if value == 0 { None } else { Some(value) }
 }
 
-fn answer(rt: &(impl Files + Env + Print)) -> Result<(), Refusal> {
+fn answer(rt: &(impl Files + Env + Print)) -> Result<(), Refused> {
     let mut kinds = [0; 33];
     let n = read_kinds(rt, &mut kinds);
     let mut values = [0; 2];
     let first = night_arguments::read_call(&kinds[..n], &mut values);
     if first == 0 {
-        return Err(Refusal::Arguments);
+        return Err(Refused::Arguments);
     }
     let options = Options {
         area: given(values[0]),
