@@ -5,7 +5,7 @@ ghost use Rattle.std.specs.Prelude.{true, [], ◌∷◌, ◌≡◌};
 ghost use Rattle.std.specs.List.{slice_get};
 ghost use Rattle.std.specs.Option.{option_copied};
 ghost use Rattle.io.specs.Counts.{IsPrefixLen};
-ghost use Rattle.night_steps.specs.Steps.{waits_of};
+ghost use Rattle.night_steps.specs.Steps.{waits_of, tells_refusal};
 
 use host::Rest;
 use night_steps::Op;
@@ -170,8 +170,10 @@ fn carry_out(rt: &impl Files, op: Op, places: Places, taken: &mut bool) -> bool 
 }
 
 // From an operation to the first that waits. `own`: the files are this call's own night.
+#[tactic(auto, using(night_steps::proofs::Told::tells_on))]
 pub fn carry(rt: &impl Files, first: Op, own: bool, places: Places) -> Op
-    ensures { waits_of result ≡ true }
+    ensures waits { waits_of result ≡ true }
+    ensures tells { tells_refusal first ≡ true → tells_refusal result ≡ true }
 {
     let files = night_names::files(places.names);
     let mut op = first;
@@ -225,8 +227,10 @@ fn read_names(rt: &impl Files, state: &[u8], buffer: &mut [u8]) -> usize
 }
 
 // The start of a call: another night's files are put in place where STATE.done stands, and STATE.night is taken. What follows is the run, or an end.
+#[tactic(auto, using(night_steps::proofs::Told::tells_on))]
 pub fn prepare(rt: &impl Files, state: &[u8]) -> Op
-    ensures { waits_of result ≡ true }
+    ensures waits { waits_of result ≡ true }
+    ensures tells { tells_refusal result ≡ true }
 {
     let op = carry(rt, Op::Find, false, Places { state, names: b"" });
     if !matches!(op, Op::ReadNames) {
@@ -272,8 +276,10 @@ fn make_file(rt: &impl Files, op: Op, places: Places, contents: Contents) -> boo
 }
 
 // The end of a call whose night has run: its files are made, committed and put in place; or STATE.night is removed.
+#[tactic(auto, using(night_steps::proofs::Told::tells_on))]
 pub fn finish(rt: &impl Files, ran: bool, places: Places, contents: Contents) -> Op
-    ensures { waits_of result ≡ true }
+    ensures waits { waits_of result ≡ true }
+    ensures tells { tells_refusal result ≡ true }
 {
     let files = night_names::files(places.names);
     let mut op = night_steps::next(files, Op::Run, ran, true);

@@ -1,5 +1,5 @@
 -- The sequence of a night's operations: the next one, from the last one and its answer; and the events of the model that an operation is.
-use Rattle.std.specs.Prelude.{Bool, true, false, List, [], ◌∷◌, ◌++◌, ℕ, zero, suc, ◌+◌, ltb, cond, Option, Some, None}
+use Rattle.std.specs.Prelude.{Bool, true, false, ◌||◌, List, [], ◌∷◌, ◌++◌, ℕ, zero, suc, ◌+◌, eqb, ltb, cond, Option, Some, None}
 use Rattle.night_steps.specs.declared.Refusal.{Refusal}
 use Rattle.night_steps.specs.declared.Refusal.TheVariants.{Unread, Failed, Taken}
 use Rattle.night_steps.specs.declared.Op.{Op}
@@ -34,6 +34,17 @@ after_put n i = choice (ltb (i + 1) n) (Put (i + 1)) SyncPlaces
 
 abbrev pub after_unlink : ℕ → ℕ → Op
 after_unlink n i = choice (ltb (i + 1) n) (Unlink (i + 1)) RemoveNight
+
+-- one of the three numbers
+abbrev pub is_refusal : ℕ → Bool
+is_refusal k = eqb k (refusal_number Unread) || eqb k (refusal_number Failed) || eqb k (refusal_number Taken)
+
+-- where an operation refuses, it does with one of them
+abbrev pub tells_refusal : Op → Bool
+tells_refusal (GiveBack k) = is_refusal k
+tells_refusal (Refused k) = is_refusal k
+tells_refusal (Stopped k) = is_refusal k
+tells_refusal op = true
 
 -- n: the files of the night; ok: the operation went well; own: this call has begun its own night. Before the commit a failure leads to the clean-up,
 -- from it on to a stop: a rename that reports failure may have been done
