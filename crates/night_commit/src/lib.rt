@@ -170,7 +170,6 @@ fn carry_out(rt: &impl Files, op: Op, places: Places, taken: &mut bool) -> bool 
 }
 
 // From an operation to the first that waits. `own`: the files are this call's own night.
-#[tactic(auto, using(night_steps::proofs::Told::tells_on))]
 pub fn carry(rt: &impl Files, first: Op, own: bool, places: Places) -> Op
     ensures waits { waits_of result ≡ true }
     ensures tells { tells_refusal first ≡ true → tells_refusal result ≡ true }
@@ -227,7 +226,6 @@ fn read_names(rt: &impl Files, state: &[u8], buffer: &mut [u8]) -> usize
 }
 
 // The start of a call: another night's files are put in place where STATE.done stands, and STATE.night is taken. What follows is the run, or an end.
-#[tactic(auto, using(night_steps::proofs::Told::tells_on))]
 pub fn prepare(rt: &impl Files, state: &[u8]) -> Op
     ensures waits { waits_of result ≡ true }
     ensures tells { tells_refusal result ≡ true }
@@ -276,7 +274,6 @@ fn make_file(rt: &impl Files, op: Op, places: Places, contents: Contents) -> boo
 }
 
 // The end of a call whose night has run: its files are made, committed and put in place; or STATE.night is removed.
-#[tactic(auto, using(night_steps::proofs::Told::tells_on))]
 pub fn finish(rt: &impl Files, ran: bool, places: Places, contents: Contents) -> Op
     ensures waits { waits_of result ≡ true }
     ensures tells { tells_refusal result ≡ true }

@@ -56,35 +56,35 @@ to_make n Placed = 0
 to_make n (Refused k) = 0
 to_make n (Stopped k) = 0
 
--- the less is ahead of both sides of a choice, the less of the choice
-chosen : (f : Op → ℕ) (m : ℕ) (b : Bool) {x y : Op} → (b ≡ true → f x < m) → (b ≡ false → f y < m) → f (choice b x y) < m
-chosen f m true p q = p refl
-chosen f m false p q = q refl
+-- what holds of each side of a choice where it is chosen holds of the choice
+pub chosen : (P : Op → Type 0) (b : Bool) {x y : Op} → (b ≡ true → P x) → (b ≡ false → P y) → P (choice b x y)
+chosen P true p q = p refl
+chosen P false p q = q refl
 
--- the same with the next file, where there is one
+-- less is ahead of the choice of the next file, where there is one
 next_file : (f : Op → ℕ) (n i m : ℕ) {x y : Op} → (i + 1 < n → f x < m) → f y < m → f (choice (ltb (i + 1) n) x y) < m
-next_file f n i m p q = chosen f m (ltb (i + 1) n) (λ e. p (ltb-true (i + 1) n e)) (λ e. q)
+next_file f n i m p q = chosen (λ o. f o < m) (ltb (i + 1) n) (λ e. p (ltb-true (i + 1) n e)) (λ e. q)
 
 pub falls : (n : ℕ) (op : Op) (ok own : Bool) → waits_of op ≡ false → ahead n (next_op n op ok own) < ahead n op
-falls n Find ok own h = chosen (ahead n) 5 ok (λ e. omega arith) (λ e. omega arith)
+falls n Find ok own h = chosen (λ o. ahead n o < 5) ok (λ e. omega arith) (λ e. omega arith)
 falls n ReadNames ok own h = absurd (true≢false h)
-falls n Take ok own h = chosen (ahead n) 4 ok (λ e. omega arith) (λ e. omega arith)
-falls n Blocked ok own h = chosen (ahead n) 1 ok (λ e. omega arith) (λ e. omega arith)
-falls n FindAgain ok own h = chosen (ahead n) 3 ok (λ e. omega arith) (λ e. omega arith)
-falls n Settle ok own h = chosen (ahead n) 2 ok (λ e. omega arith) (λ e. omega arith)
+falls n Take ok own h = chosen (λ o. ahead n o < 4) ok (λ e. omega arith) (λ e. omega arith)
+falls n Blocked ok own h = chosen (λ o. ahead n o < 1) ok (λ e. omega arith) (λ e. omega arith)
+falls n FindAgain ok own h = chosen (λ o. ahead n o < 3) ok (λ e. omega arith) (λ e. omega arith)
+falls n Settle ok own h = chosen (λ o. ahead n o < 2) ok (λ e. omega arith) (λ e. omega arith)
 falls n (GiveBack k) ok own h = omega arith
 falls n Run ok own h = absurd (true≢false h)
 falls n (Make i) ok own h = absurd (true≢false h)
-falls n SyncNight ok own h = chosen (ahead n) (11 + n) ok (λ e. omega arith) (λ e. omega arith)
+falls n SyncNight ok own h = chosen (λ o. ahead n o < 11 + n) ok (λ e. omega arith) (λ e. omega arith)
 falls n (Unlink i) ok own h = next_file (ahead n) n i (2 + (n - i)) (λ g. omega arith) (omega arith)
 falls n RemoveNight ok own h = omega arith
-falls n Commit ok own h = chosen (ahead n) (10 + n) ok (λ e. omega arith) (λ e. omega arith)
-falls n SyncCommit ok own h = chosen (ahead n) (9 + n) ok (λ e. omega arith) (λ e. omega arith)
+falls n Commit ok own h = chosen (λ o. ahead n o < 10 + n) ok (λ e. omega arith) (λ e. omega arith)
+falls n SyncCommit ok own h = chosen (λ o. ahead n o < 9 + n) ok (λ e. omega arith) (λ e. omega arith)
 falls n (Put i) ok own h =
-    chosen (ahead n) (8 + (n - i)) ok (λ t. next_file (ahead n) n i (8 + (n - i)) (λ g. omega arith) (omega arith)) (λ e. omega arith)
-falls n SyncPlaces ok own h = chosen (ahead n) 7 ok (λ e. omega arith) (λ e. omega arith)
-falls n RemoveDone ok own h = chosen (ahead n) 6 ok (λ e. omega arith) (λ e. omega arith)
-falls n SyncLast ok own h = chosen (ahead n) 5 ok (λ t. chosen (ahead n) 5 own (λ e. omega arith) (λ e. omega arith)) (λ e. omega arith)
+    chosen (λ o. ahead n o < 8 + (n - i)) ok (λ t. next_file (ahead n) n i (8 + (n - i)) (λ g. omega arith) (omega arith)) (λ e. omega arith)
+falls n SyncPlaces ok own h = chosen (λ o. ahead n o < 7) ok (λ e. omega arith) (λ e. omega arith)
+falls n RemoveDone ok own h = chosen (λ o. ahead n o < 6) ok (λ e. omega arith) (λ e. omega arith)
+falls n SyncLast ok own h = chosen (λ o. ahead n o < 5) ok (λ t. chosen (λ o. ahead n o < 5) own (λ e. omega arith) (λ e. omega arith)) (λ e. omega arith)
 falls n Placed ok own h = absurd (true≢false h)
 falls n (Refused k) ok own h = absurd (true≢false h)
 falls n (Stopped k) ok own h = absurd (true≢false h)
@@ -99,7 +99,7 @@ makes_fall n Settle ok own h = absurd (true≢false (sym h))
 makes_fall n (GiveBack k) ok own h = absurd (true≢false (sym h))
 makes_fall n Run ok own h = absurd (true≢false (sym h))
 makes_fall n (Make i) ok own h =
-    chosen (to_make n) (1 + (n - i)) ok (λ t. next_file (to_make n) n i (1 + (n - i)) (λ g. omega arith) (omega arith)) (λ e. omega arith)
+    chosen (λ o. to_make n o < 1 + (n - i)) ok (λ t. next_file (to_make n) n i (1 + (n - i)) (λ g. omega arith) (omega arith)) (λ e. omega arith)
 makes_fall n SyncNight ok own h = absurd (true≢false (sym h))
 makes_fall n (Unlink i) ok own h = absurd (true≢false (sym h))
 makes_fall n RemoveNight ok own h = absurd (true≢false (sym h))

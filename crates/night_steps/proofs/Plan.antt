@@ -11,7 +11,8 @@ use borrow.Author.Tests.{lt-ltb, le-ltb}
 use Rattle.night_steps.specs.declared.Op.{Op}
 use Rattle.night_steps.specs.declared.Op.TheVariants.{Find, ReadNames, Take, Blocked, FindAgain, Settle, GiveBack, Run, Make, SyncNight, Unlink, RemoveNight}
 use Rattle.night_steps.specs.declared.Op.TheVariants.{Commit, SyncCommit, Put, SyncPlaces, RemoveDone, SyncLast, Placed, Refused, Stopped}
-use Rattle.night_steps.specs.Steps.{choice, after_make, after_put, next_op, events, walk, end}
+use Rattle.night_steps.specs.Steps.{choice, next_op, events, walk, end}
+use Rattle.night_steps.proofs.Ahead.{chosen}
 use Rattle.night_steps.proofs.Held.{Held, held}
 use Rattle.night_folders.specs.Folders.{Deed, ◌at◌, File, fresh, saved, Help, Disk, idle, call, put, fsync_commit, fsync_night, commit, create, write, fsync_file}
 use Rattle.night_folders.specs.Rules.{asks}
@@ -192,29 +193,28 @@ under_way Placed = true
 under_way (Refused k) = true
 under_way (Stopped k) = true
 
-chosen : (b : Bool) (x y : Op) → T (under_way x) → T (under_way y) → T (under_way (choice b x y))
-chosen true x y p q = p
-chosen false x y p q = q
+abbrev Goes : Op → Type 0
+Goes op = T (under_way op)
 
 goes_on_lem : (n : ℕ) (op : Op) (ok own : Bool) → T (under_way (next_op n op ok own))
-goes_on_lem n Find ok own = chosen ok Take ReadNames tt tt
-goes_on_lem n ReadNames ok own = chosen ok SyncCommit (Stopped 33) tt tt
-goes_on_lem n Take ok own = chosen ok FindAgain Blocked tt tt
-goes_on_lem n Blocked ok own = chosen ok (Refused 35) (Refused 34) tt tt
-goes_on_lem n FindAgain ok own = chosen ok Settle (GiveBack 35) tt tt
-goes_on_lem n Settle ok own = chosen ok Run (GiveBack 34) tt tt
+goes_on_lem n Find ok own = chosen Goes ok (λ t. tt) (λ f. tt)
+goes_on_lem n ReadNames ok own = chosen Goes ok (λ t. tt) (λ f. tt)
+goes_on_lem n Take ok own = chosen Goes ok (λ t. tt) (λ f. tt)
+goes_on_lem n Blocked ok own = chosen Goes ok (λ t. tt) (λ f. tt)
+goes_on_lem n FindAgain ok own = chosen Goes ok (λ t. tt) (λ f. tt)
+goes_on_lem n Settle ok own = chosen Goes ok (λ t. tt) (λ f. tt)
 goes_on_lem n (GiveBack k) ok own = tt
-goes_on_lem n Run ok own = chosen ok (Make 0) RemoveNight tt tt
-goes_on_lem n (Make i) ok own = chosen ok (after_make n i) (Unlink 0) (chosen (ltb (i + 1) n) (Make (i + 1)) SyncNight tt tt) tt
-goes_on_lem n SyncNight ok own = chosen ok Commit (Unlink 0) tt tt
-goes_on_lem n (Unlink i) ok own = chosen (ltb (i + 1) n) (Unlink (i + 1)) RemoveNight tt tt
+goes_on_lem n Run ok own = chosen Goes ok (λ t. tt) (λ f. tt)
+goes_on_lem n (Make i) ok own = chosen Goes ok (λ t. chosen Goes (ltb (i + 1) n) (λ t. tt) (λ f. tt)) (λ f. tt)
+goes_on_lem n SyncNight ok own = chosen Goes ok (λ t. tt) (λ f. tt)
+goes_on_lem n (Unlink i) ok own = chosen Goes (ltb (i + 1) n) (λ t. tt) (λ f. tt)
 goes_on_lem n RemoveNight ok own = tt
-goes_on_lem n Commit ok own = chosen ok SyncCommit (Stopped 34) tt tt
-goes_on_lem n SyncCommit ok own = chosen ok (Put 0) (Stopped 34) tt tt
-goes_on_lem n (Put i) ok own = chosen ok (after_put n i) (Stopped 34) (chosen (ltb (i + 1) n) (Put (i + 1)) SyncPlaces tt tt) tt
-goes_on_lem n SyncPlaces ok own = chosen ok RemoveDone (Stopped 34) tt tt
-goes_on_lem n RemoveDone ok own = chosen ok SyncLast (Stopped 34) tt tt
-goes_on_lem n SyncLast ok own = chosen ok (choice own Placed Take) (Stopped 34) (chosen own Placed Take tt tt) tt
+goes_on_lem n Commit ok own = chosen Goes ok (λ t. tt) (λ f. tt)
+goes_on_lem n SyncCommit ok own = chosen Goes ok (λ t. tt) (λ f. tt)
+goes_on_lem n (Put i) ok own = chosen Goes ok (λ t. chosen Goes (ltb (i + 1) n) (λ t. tt) (λ f. tt)) (λ f. tt)
+goes_on_lem n SyncPlaces ok own = chosen Goes ok (λ t. tt) (λ f. tt)
+goes_on_lem n RemoveDone ok own = chosen Goes ok (λ t. tt) (λ f. tt)
+goes_on_lem n SyncLast ok own = chosen Goes ok (λ t. chosen Goes own (λ t. tt) (λ f. tt)) (λ f. tt)
 goes_on_lem n Placed ok own = tt
 goes_on_lem n (Refused k) ok own = tt
 goes_on_lem n (Stopped k) ok own = tt

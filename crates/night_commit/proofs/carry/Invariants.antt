@@ -1,4 +1,5 @@
--- `night_commit::carry` ends, as less is ahead after each operation, none of which refuses with another number. Assumes nothing.
+-- `night_commit::carry` ends, as less is ahead after each operation; where the first refuses with one of the three numbers or not at all, so does each. Assumes
+-- nothing.
 use mathlib.Core.Bool.{true}
 use mathlib.Core.Path.{◌≡◌}
 use Rattle.night_steps.specs.Steps.{tells_refusal}
